@@ -1,0 +1,36 @@
+use lib.Dec.{lit<}
+use lib.IntN.{pos}
+use Rattle.rules.specs.Side.{momentum}
+use Rattle.rules.proofs.Wide.{Wide, given, number, from32, store, times, plus, fits}
+use Rattle.rules.proofs.side.FaceSide.momentum.Needs as need
+
+abbrev depth : need.After-from-normal → Wide
+depth c = store (given (c .from-depth .result) (pos (c .args .self .depth)) 2000000 (c .from-depth .ensures) (c .args .self .shallow)) (lit< tt)
+
+abbrev speed : need.After-from-normal → Wide
+speed c = store (given (c .from-normal .result) (c .args .self .normal) 10000 (from32 _ _ 10000 (c .from-normal .ensures) (c .args .self .slow) (lit< tt)) (c .args .self .slow)) (lit< tt)
+
+abbrev flow : need.After-from-normal → Wide
+flow c = times (store (times (number 20) (depth c)) (lit< tt)) (store (times (speed c) (speed c)) (lit< tt))
+
+abbrev weight : need.After-from-normal → Wide
+weight c = times (number 981) (store (times (depth c) (depth c)) (lit< tt))
+
+abbrev whole : need.After-from-normal → Wide
+whole c = plus (store (flow c) (lit< tt)) (store (weight c) (lit< tt))
+
+pub mul-result-3 : need.mul-result-3
+mul-result-3 c = fits (flow c) (lit< tt)
+
+pub mul-result-4 : need.mul-result-4
+mul-result-4 c = fits (times (depth c) (depth c)) (lit< tt)
+
+pub mul-result-5 : need.mul-result-5
+mul-result-5 c = fits (weight c) (lit< tt)
+
+pub add-result : need.add-result
+add-result c = fits (whole c) (lit< tt)
+
+pub returns : need.returns
+unfolding momentum
+returns c = store (whole c) (lit< tt) .is

@@ -1,0 +1,9 @@
+pub mod Root
+pub mod Side
+pub mod Flux
+pub mod Rusanov
+pub mod Hll
+pub mod Friction
+pub mod Drag
+pub mod BareBed
+pub mod Weed
