@@ -1,15 +1,14 @@
 -- The state between two waves a < 0 < b that go apart: its bounds, between equal sides, and seen from across the face.
-use mathlib.Core.Path.{_≡_, refl, sym, ap, subst, _∙_}
-use Prim.Native.Nat.{ℕ, zero, suc, _+_, _-_, _*_, _/_, _^_, _≤_, _<_}
+use mathlib.Core.Path.{_≡_, sym, ap, subst, _∙_}
+use Prim.Native.Nat.{ℕ, _+_, _-_, _*_, _/_, _^_, _≤_, _<_}
 use native.Mathlib.Nat.{div-le-of-le-mul, mul-div-le, mul-le-mul-left, zero-div}
 use native.Mathlib.Omega.{arith}
-use lib.Dec.{lit≤}
-use lib.IntN.{ℤ, pos, negsuc, _+ℤ_, _-ℤ_, _*ℤ_, negℤ, natAbs}
+use lib.IntN.{ℤ, pos, _+ℤ_, _-ℤ_, _*ℤ_, negℤ, natAbs}
 use lib.Signed.{quotZ, _≤ℤ_, _<ℤ_}
 use Rattle.std.proofs.shelf.Signed.{ints}
 use Rattle.std.proofs.shelf.Bits.{mul-le}
 use Rattle.rules.specs.Hll.{Apart, fan-water, fan-push}
-use Rattle.rules.proofs.Ints.{mul-comm, mul-add, mul-sub, mul-neg, neg-mul, sub-mul, neg-neg-mul, abs-mul, near-mul, abs-quot, quot-le, quot-neg, quot-near, quot-whole, quotient-neg}
+use Rattle.rules.proofs.Ints.{mul-comm, mul-sub, mul-neg, neg-mul, sub-mul, neg-neg-mul, abs-mul, near-mul, abs-quot, quot-le, quot-near, quot-whole, quotient-neg}
 
 minus : (f g : ℤ) → g -ℤ f ≡ negℤ (f -ℤ g)
 minus f g = omega (arith, ints)

@@ -12,7 +12,6 @@ use Rattle.std.proofs.shelf.Tests.{cases-lt}
 use Rattle.rules.specs.Drag.{quot-up, quot-away, dragged, with-size}
 use Rattle.rules.specs.Friction.{Slowing, Lawful-friction}
 use Rattle.rules.specs.BareBed.{bare-slowed}
-use Rattle.rules.specs.Weed.{weed-slowed}
 
 -- ---- a size with a sign
 pub size-back : (q : ℤ) (n : ℕ) (x : ℤ) → q <ℤ pos 0 → x ≡ negℤ (pos n) → x ≡ with-size q n

@@ -1,13 +1,13 @@
 -- Signed numbers: sums, products and quotients that are cut toward zero, with their bounds.
-use mathlib.Core.Path.{_≡_, refl, sym, ap, subst, _∙_}
-use Prim.Native.Nat.{ℕ, zero, suc, _+_, _-_, _*_, _/_, _^_, _≤_, _<_}
+use mathlib.Core.Path.{_≡_, refl, sym, ap, _∙_}
+use Prim.Native.Nat.{ℕ, zero, suc, _+_, _-_, _*_, _/_, _≤_, _<_}
 use native.Mathlib.Omega.{arith}
 use lib.IntN.{ℤ, pos, negsuc, _+ℤ_, _-ℤ_, _*ℤ_, negℤ, natAbs, negℤ-negℤ}
-use lib.Signed.{quotZ, _≤ℤ_, _<ℤ_}
+use lib.Signed.{quotZ, _≤ℤ_}
 use Rattle.std.proofs.shelf.Signed.{ints}
 use Rattle.std.proofs.shelf.Bits.{mul-le}
-use borrow.Author.Differences.{up, down, sum-is, neg-is, product-is, quot-is, le-out, same-in}
-use native.Mathlib.Nat.{div-le-self, zero-div, mul-le-mul-left, div-le-of-le-mul, mul-div-cancel-left}
+use borrow.Author.Differences.{up, down, sum-is, neg-is}
+use native.Mathlib.Nat.{div-le-self, zero-div, div-le-of-le-mul, mul-div-cancel-left}
 
 -- ---- the ring
 -- an equation of naturals, multiplied by one
@@ -26,31 +26,11 @@ mul-neg a b = omega (arith, ints, times (up a) (neg-is b .0), times (down a) (ne
 pub mul-sub : (a b c : ℤ) → a *ℤ (b -ℤ c) ≡ a *ℤ b -ℤ a *ℤ c
 mul-sub a b c = mul-add a b (negℤ c) ∙ ap (λ (t : ℤ). a *ℤ b +ℤ t) (mul-neg a c)
 
-lin : {x x′ y y′ : ℕ} (u v : ℕ) → x ≡ x′ → y ≡ y′ → x * u + y * v ≡ x′ * u + y′ * v
-lin {x} {x′} {y} {y′} u v p q = ap (λ (t : ℕ). t * u + y * v) p ∙ ap (λ (t : ℕ). x′ * u + t * v) q
-
-linr : {x x′ y y′ : ℕ} (u v : ℕ) → x ≡ x′ → y ≡ y′ → u * x + v * y ≡ u * x′ + v * y′
-linr {x} {x′} {y} {y′} u v p q = ap (λ (t : ℕ). u * t + v * y) p ∙ ap (λ (t : ℕ). u * x′ + v * t) q
-
-pub mul-assoc : (a b c : ℤ) → a *ℤ b *ℤ c ≡ a *ℤ (b *ℤ c)
-mul-assoc a b c =
-    let u1 = product-is (a *ℤ b) c .0 ∙ lin (up c) (down c) (product-is a b .0) (product-is a b .1) in
-    let d1 = product-is (a *ℤ b) c .1 ∙ lin (down c) (up c) (product-is a b .0) (product-is a b .1) in
-    let u2 = product-is a (b *ℤ c) .0 ∙ linr (up a) (down a) (product-is b c .0) (product-is b c .1) in
-    let d2 = product-is a (b *ℤ c) .1 ∙ linr (up a) (down a) (product-is b c .1) (product-is b c .0) in
-    same-in (a *ℤ b *ℤ c) (a *ℤ (b *ℤ c)) (omega arith)
-
-pub add-mul : (a b c : ℤ) → (a +ℤ b) *ℤ c ≡ a *ℤ c +ℤ b *ℤ c
-add-mul a b c = mul-comm (a +ℤ b) c ∙ mul-add c a b ∙ ap (λ (t : ℤ). t +ℤ c *ℤ b) (mul-comm c a) ∙ ap (λ (t : ℤ). a *ℤ c +ℤ t) (mul-comm c b)
-
 pub sub-mul : (a b c : ℤ) → (a -ℤ b) *ℤ c ≡ a *ℤ c -ℤ b *ℤ c
 sub-mul a b c = mul-comm (a -ℤ b) c ∙ mul-sub c a b ∙ ap (λ (t : ℤ). t -ℤ c *ℤ b) (mul-comm c a) ∙ ap (λ (t : ℤ). a *ℤ c -ℤ t) (mul-comm c b)
 
 pub neg-mul : (a b : ℤ) → negℤ a *ℤ b ≡ negℤ (a *ℤ b)
 neg-mul a b = mul-comm (negℤ a) b ∙ mul-neg b a ∙ ap negℤ (mul-comm b a)
-
-pub mul-swap : (a b c : ℤ) → a *ℤ (b *ℤ c) ≡ b *ℤ (a *ℤ c)
-mul-swap a b c = sym (mul-assoc a b c) ∙ ap (λ (t : ℤ). t *ℤ c) (mul-comm a b) ∙ mul-assoc b a c
 
 -- ---- sizes
 pub abs-mul : (a b : ℤ) → natAbs (a *ℤ b) ≡ natAbs a * natAbs b
@@ -61,10 +41,6 @@ abs-mul (negsuc a) (negsuc b) = refl
 
 pub near-mul : (a b : ℤ) (m n : ℕ) → natAbs a ≤ m → natAbs b ≤ n → natAbs (a *ℤ b) ≤ m * n
 near-mul a b m n h k = omega (arith, abs-mul a b, mul-le (natAbs a) (natAbs b) m n h k)
-
--- ---- order
-pub mul-mono : (k : ℕ) (a b : ℤ) → a ≤ℤ b → (pos k *ℤ a) ≤ℤ (pos k *ℤ b)
-mul-mono k a b h = omega (arith, ints, mul-le-mul-left k (le-out a b h))
 
 -- ---- quotients
 pub quot-neg : (a : ℤ) (k : ℕ) → quotZ (negℤ a) (pos k) ≡ negℤ (quotZ a (pos k))

@@ -1,12 +1,14 @@
 -- What the ranges of a side give, and a side seen from across the face.
-use mathlib.Core.Path.{_≡_, refl, ap, subst, _∙_}
+use mathlib.Core.Path.{_≡_, ap, subst, _∙_}
 use mathlib.Core.Logic.{⊎-elim}
 use Prim.Native.Nat.{ℕ, _+_, _*_, _≤_, _<_}
 use native.Mathlib.Nat.{le-refl}
 use native.Mathlib.Omega.{arith}
-use lib.Dec.{lit≤}
-use lib.IntN.{ℤ, pos, _+ℤ_, _-ℤ_, _*ℤ_, negℤ, natAbs}
+use lib.Dec.{lit<}
+use lib.IntN.{ℤ, pos, _+ℤ_, _*ℤ_, negℤ, natAbs}
 use lib.Signed.{_≤ℤ_}
+use mir.Syntax.{w32}
+use mir.Val.{toZ, ofZ}
 use Rattle.std.proofs.shelf.Bits.{mul-le}
 use Rattle.std.proofs.shelf.Signed.{ints}
 use Rattle.std.proofs.shelf.Tests.{cases-lt}
@@ -16,6 +18,7 @@ use Rattle.rules.specs.Side.{Facing, pace-of, face-pace, discharge, momentum}
 use Rattle.rules.specs.Hll.{slow-wave, fast-wave}
 use Rattle.rules.proofs.Ints.{near-mul, mul-neg, neg-neg-mul, mul-le-zero, mul-ge-zero}
 use Rattle.rules.proofs.Roots.{root-least}
+use Rattle.rules.proofs.Wide.{Wide, given, from32, store}
 
 -- a side of the code is in range
 pub facing : (s : FaceSide) → Facing (s .depth) (s .normal)
@@ -103,3 +106,20 @@ onward-carries d n h = mul-ge-zero d n (omega (arith, ints))
 pub back-carries : (d : ℕ) (n : ℤ) → fast-wave d n ≤ℤ pos 0 → discharge d n ≤ℤ pos 0
 unfolding fast-wave discharge
 back-carries d n h = mul-le-zero d n (omega (arith, ints))
+
+-- ---- what the code has of a side, in 64 bits
+module _ (s : FaceSide) (x : ℤ) where
+  abbrev pub wide-depth : x ≡ pos (s .depth) → Wide
+  wide-depth e = store (given x (pos (s .depth)) 2000000 e (s .shallow)) (lit< tt)
+
+  abbrev pub wide-normal : x ≡ toZ w32 (ofZ w32 (s .normal)) → Wide
+  wide-normal e = store (given x (s .normal) 10000 (from32 x (s .normal) 10000 e (s .slow) (lit< tt)) (s .slow)) (lit< tt)
+
+  abbrev pub wide-wave : x ≡ pos (s .wave) → Wide
+  wide-wave e = store (given x (pos (root-of (s .depth))) 14008 (e ∙ ap pos (s .celerity)) (root-near (s .depth) (s .shallow))) (lit< tt)
+
+  abbrev pub wide-discharge : x ≡ discharge (s .depth) (s .normal) → Wide
+  wide-discharge e = store (given x (discharge (s .depth) (s .normal)) 20000000000 e (discharge-near (s .depth) (s .normal) (facing s))) (lit< tt)
+
+  abbrev pub wide-momentum : x ≡ momentum (s .depth) (s .normal) → Wide
+  wide-momentum e = store (given x (momentum (s .depth) (s .normal)) 7924000000000000 e (momentum-near (s .depth) (s .normal) (facing s))) (lit< tt)

@@ -3,8 +3,8 @@
 use mathlib.Core.Path.{_≡_, refl, sym, ap, subst, _∙_}
 use Prim.Native.Nat.{ℕ, _+_, _*_, _^_, _≤_, _<_}
 use native.Mathlib.Omega.{arith}
-use lib.IntN.{ℤ, pos, negsuc, _+ℤ_, _-ℤ_, _*ℤ_, natAbs, negℤ}
-use lib.Signed.{quotZ, _<ℤ_}
+use lib.IntN.{ℤ, pos, negsuc, _+ℤ_, _-ℤ_, _*ℤ_, natAbs}
+use lib.Signed.{quotZ, mag, _<ℤ_}
 use mir.Syntax.{w32, w64}
 use mir.Val.{SFits, toZ, ofZ}
 use Rattle.std.proofs.shelf.Signed.{ints, toZ-ofZ}
@@ -16,6 +16,10 @@ pub record Wide : Type 0 where
   pub bound : ℕ
   pub is : code ≡ meant
   pub near : natAbs meant ≤ bound
+
+-- a value that is held is what it was
+pub held : (x z : ℤ) → mag x < 2 ^ 63 → x ≡ z → toZ w64 (ofZ w64 x) ≡ z
+held x z h e = toZ-ofZ w64 x (record { sfits = h }) ∙ e
 
 -- what a call returned
 abbrev pub given : (x z : ℤ) (k : ℕ) → x ≡ z → natAbs z ≤ k → Wide
@@ -30,7 +34,6 @@ from32 x z k e h l = let f : SFits w32 z = omega (arith, ints) in e ∙ toZ-ofZ 
 pub fits : (a : Wide) → a .bound < 2 ^ 63 → SFits w64 (a .code)
 fits a h = let e = a .is in let n = a .near in omega (arith, ints)
 
--- a value that is held
 abbrev pub store : (a : Wide) → a .bound < 2 ^ 63 → Wide
 store a h = record { code = toZ w64 (ofZ w64 (a .code)); meant = a .meant; bound = a .bound; is = toZ-ofZ w64 (a .code) (fits a h) ∙ a .is; near = a .near }
 

@@ -1,5 +1,5 @@
-use mathlib.Core.Path.{_≡_, subst}
-use Prim.Native.Nat.{ℕ, _-_, _*_, _≤_}
+use mathlib.Core.Path.{subst}
+use Prim.Native.Nat.{ℕ, _-_, _*_}
 use native.Mathlib.Omega.{arith}
 use Rattle.rules.specs.Root.{Least-root}
 use Rattle.rules.proofs.Roots.{Short, square-mono, short-more, root-only}

@@ -2,7 +2,6 @@ use mathlib.Core.Path.{subst}
 use Prim.Native.Nat.{ℕ, _+_, _-_, _*_, _/_, _≤_, _<_}
 use native.Mathlib.Omega.{arith}
 use lib.Dec.{lit<, lit≤}
-use Rattle.rules.specs.Root.{Least-root}
 use Rattle.rules.proofs.Roots.{First, square-mono, upper-half, at-end, least-of, root-only}
 use Rattle.rules.proofs.root.search.Needs as need
 

@@ -1,11 +1,9 @@
-use mathlib.Core.Path.{refl, ap, _∙_}
+use mathlib.Core.Path.{refl}
 use native.Mathlib.Omega.{arith}
 use lib.Dec.{lit<}
-use lib.IntN.{pos, _-ℤ_}
-use Rattle.rules.specs.Side.{discharge, momentum}
 use Rattle.rules.specs.Hll.{fan-water, fan-push}
 use Rattle.rules.proofs.Wide.{Wide, given, number, store, times, plus, less, over, by, within, fits, divisor}
-use Rattle.rules.proofs.Sides.{facing, discharge-near, momentum-near}
+use Rattle.rules.proofs.Sides.{wide-depth, wide-discharge, wide-momentum}
 use Rattle.rules.proofs.Fans.{width-pos, lean-near, jump-near}
 use Rattle.rules.proofs.flux.hll.fan.Needs as need
 use Rattle.rules.proofs.flux.hll.fan.Needs.{After-momentum-push-right}
@@ -17,22 +15,22 @@ abbrev high : After-momentum-push-right → Wide
 high c = store (given (c .args .high) (c .args .high) 24008 refl (c .pre .high)) (lit< tt)
 
 abbrev depth-left : After-momentum-push-right → Wide
-depth-left c = store (given (c .from-depth-left .result) (pos (c .args .left .depth)) 2000000 (c .from-depth-left .ensures) (c .args .left .shallow)) (lit< tt)
+depth-left c = wide-depth (c .args .left) _ (c .from-depth-left .ensures)
 
 abbrev water-left : After-momentum-push-right → Wide
-water-left c = store (given (c .discharge-water-left .result) (discharge (c .args .left .depth) (c .args .left .normal)) 20000000000 (c .discharge-water-left .ensures) (discharge-near (c .args .left .depth) (c .args .left .normal) (facing (c .args .left)))) (lit< tt)
+water-left c = wide-discharge (c .args .left) _ (c .discharge-water-left .ensures)
 
 abbrev push-left : After-momentum-push-right → Wide
-push-left c = store (given (c .momentum-push-left .result) (momentum (c .args .left .depth) (c .args .left .normal)) 7924000000000000 (c .momentum-push-left .ensures) (momentum-near (c .args .left .depth) (c .args .left .normal) (facing (c .args .left)))) (lit< tt)
+push-left c = wide-momentum (c .args .left) _ (c .momentum-push-left .ensures)
 
 abbrev depth-right : After-momentum-push-right → Wide
-depth-right c = store (given (c .from-depth-right .result) (pos (c .args .right .depth)) 2000000 (c .from-depth-right .ensures) (c .args .right .shallow)) (lit< tt)
+depth-right c = wide-depth (c .args .right) _ (c .from-depth-right .ensures)
 
 abbrev water-right : After-momentum-push-right → Wide
-water-right c = store (given (c .discharge-water-right .result) (discharge (c .args .right .depth) (c .args .right .normal)) 20000000000 (c .discharge-water-right .ensures) (discharge-near (c .args .right .depth) (c .args .right .normal) (facing (c .args .right)))) (lit< tt)
+water-right c = wide-discharge (c .args .right) _ (c .discharge-water-right .ensures)
 
 abbrev push-right : After-momentum-push-right → Wide
-push-right c = store (given (c .momentum-push-right .result) (momentum (c .args .right .depth) (c .args .right .normal)) 7924000000000000 (c .momentum-push-right .ensures) (momentum-near (c .args .right .depth) (c .args .right .normal) (facing (c .args .right)))) (lit< tt)
+push-right c = wide-momentum (c .args .right) _ (c .momentum-push-right .ensures)
 
 abbrev wide : After-momentum-push-right → Wide
 wide c = less (high c) (low c)

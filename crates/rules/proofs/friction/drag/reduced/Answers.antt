@@ -1,11 +1,12 @@
-use mathlib.Core.Path.{_≡_, sym, ap, _∙_}
-use Prim.Native.Nat.{ℕ, _+_, _*_}
+use mathlib.Core.Path.{_≡_, ap}
+use Prim.Native.Nat.{ℕ, _*_}
 use native.Mathlib.Omega.{arith}
 use mir.Syntax.{w64}
 use lib.IntN.{natAbs}
 use Rattle.std.proofs.shelf.Signed.{ints, toZ-ofZ}
 use Rattle.rules.specs.Drag.{with-size, quot-up}
-use Rattle.rules.proofs.Frictions.{size-dragged, takes-within, dragged-is}
+use Rattle.rules.proofs.Wide.{held}
+use Rattle.rules.proofs.Frictions.{takes-within, dragged-is}
 use Rattle.rules.proofs.friction.drag.reduced.Needs as need
 
 pub mul-size : need.mul-size
@@ -23,7 +24,7 @@ with-size-requires c κs = omega (arith, ints, c .pre .within)
 pub returns : need.returns
 unfolding quot-up
 returns c =
-    let a = toZ-ofZ w64 (c .with-size .result) (record { sfits = c .with-size .ok }) in
+    let a = held _ _ (c .with-size .ok) (c .with-size .ensures) in
     let e = toZ-ofZ w64 (c .args .flow) (c .fits .flow) in
     let s : c .unsigned-abs-size .result ≡ natAbs (c .args .flow) = omega (arith, ints) in
     let d = dragged-is (c .args .hold) (c .args .drag) (c .args .flow) (c .pre .some-hold) in

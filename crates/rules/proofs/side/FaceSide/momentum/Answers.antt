@@ -1,14 +1,14 @@
 use lib.Dec.{lit<}
-use lib.IntN.{pos}
 use Rattle.rules.specs.Side.{momentum}
-use Rattle.rules.proofs.Wide.{Wide, given, number, from32, store, times, plus, fits}
+use Rattle.rules.proofs.Wide.{Wide, number, store, times, plus, fits}
+use Rattle.rules.proofs.Sides.{wide-depth, wide-normal}
 use Rattle.rules.proofs.side.FaceSide.momentum.Needs as need
 
 abbrev depth : need.After-from-normal → Wide
-depth c = store (given (c .from-depth .result) (pos (c .args .self .depth)) 2000000 (c .from-depth .ensures) (c .args .self .shallow)) (lit< tt)
+depth c = wide-depth (c .args .self) _ (c .from-depth .ensures)
 
 abbrev speed : need.After-from-normal → Wide
-speed c = store (given (c .from-normal .result) (c .args .self .normal) 10000 (from32 _ _ 10000 (c .from-normal .ensures) (c .args .self .slow) (lit< tt)) (c .args .self .slow)) (lit< tt)
+speed c = wide-normal (c .args .self) _ (c .from-normal .ensures)
 
 abbrev flow : need.After-from-normal → Wide
 flow c = times (store (times (number 20) (depth c)) (lit< tt)) (store (times (speed c) (speed c)) (lit< tt))

@@ -1,20 +1,10 @@
 use mathlib.Core.Path.{_∙_, sym}
 use native.Mathlib.Omega.{arith}
-use lib.IntN.{ℤ, pos}
-use lib.Signed.{_≤ℤ_, _<ℤ_, mag}
-use mir.Syntax.{w64}
-use mir.Val.{toZ, ofZ}
-use Prim.Native.Nat.{_^_, _<_}
-use mathlib.Core.Path.{_≡_}
-use Rattle.std.proofs.shelf.Signed.{ints, toZ-ofZ}
+use Rattle.std.proofs.shelf.Signed.{ints}
+use Rattle.rules.proofs.Wide.{held}
 use Rattle.rules.proofs.Hlls.{wide-apart, goes-right, goes-left, goes-apart}
 use Rattle.rules.proofs.Sides.{facing}
-use Rattle.rules.specs.Hll.{Apart, slowest, fastest}
 use Rattle.rules.proofs.flux.hll.HllFlux.flux.Needs as need
-
--- a result that is held is still what it was
-held : (x y : ℤ) → mag x < 2 ^ 63 → x ≡ y → toZ w64 (ofZ w64 x) ≡ y
-held x y h e = toZ-ofZ w64 x (record { sfits = h }) ∙ e
 
 pub fan-requires : need.fan-requires
 fan-requires c κs =

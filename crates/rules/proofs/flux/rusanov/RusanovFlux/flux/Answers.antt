@@ -1,10 +1,10 @@
 use mathlib.Core.Path.{ap, _∙_}
 use lib.Dec.{lit<}
 use lib.IntN.{pos}
-use Rattle.rules.specs.Side.{face-pace, discharge, momentum}
+use Rattle.rules.specs.Side.{face-pace}
 use Rattle.rules.specs.Rusanov.{rusanov-water, rusanov-push}
 use Rattle.rules.proofs.Wide.{Wide, given, number, store, times, plus, less, over, fits}
-use Rattle.rules.proofs.Sides.{facing, face-near, discharge-near, momentum-near}
+use Rattle.rules.proofs.Sides.{facing, face-near, wide-depth, wide-discharge, wide-momentum}
 use Rattle.rules.proofs.flux.rusanov.RusanovFlux.flux.Needs as need
 use Rattle.rules.proofs.flux.rusanov.RusanovFlux.flux.Needs.{After-momentum-push-right}
 
@@ -12,22 +12,22 @@ abbrev pace : After-momentum-push-right → Wide
 pace c = store (given (c .from-pace .result) (pos (face-pace (c .args .left .depth) (c .args .left .normal) (c .args .right .depth) (c .args .right .normal))) 24008 (c .from-pace .ensures ∙ ap pos (c .face-pace .ensures)) (face-near (c .args .left .depth) (c .args .left .normal) (c .args .right .depth) (c .args .right .normal) (facing (c .args .left)) (facing (c .args .right)))) (lit< tt)
 
 abbrev depth-left : After-momentum-push-right → Wide
-depth-left c = store (given (c .from-depth-left .result) (pos (c .args .left .depth)) 2000000 (c .from-depth-left .ensures) (c .args .left .shallow)) (lit< tt)
+depth-left c = wide-depth (c .args .left) _ (c .from-depth-left .ensures)
 
 abbrev depth-right : After-momentum-push-right → Wide
-depth-right c = store (given (c .from-depth-right .result) (pos (c .args .right .depth)) 2000000 (c .from-depth-right .ensures) (c .args .right .shallow)) (lit< tt)
+depth-right c = wide-depth (c .args .right) _ (c .from-depth-right .ensures)
 
 abbrev water-left : After-momentum-push-right → Wide
-water-left c = store (given (c .discharge-water-left .result) (discharge (c .args .left .depth) (c .args .left .normal)) 20000000000 (c .discharge-water-left .ensures) (discharge-near (c .args .left .depth) (c .args .left .normal) (facing (c .args .left)))) (lit< tt)
+water-left c = wide-discharge (c .args .left) _ (c .discharge-water-left .ensures)
 
 abbrev water-right : After-momentum-push-right → Wide
-water-right c = store (given (c .discharge-water-right .result) (discharge (c .args .right .depth) (c .args .right .normal)) 20000000000 (c .discharge-water-right .ensures) (discharge-near (c .args .right .depth) (c .args .right .normal) (facing (c .args .right)))) (lit< tt)
+water-right c = wide-discharge (c .args .right) _ (c .discharge-water-right .ensures)
 
 abbrev push-left : After-momentum-push-right → Wide
-push-left c = store (given (c .momentum-push-left .result) (momentum (c .args .left .depth) (c .args .left .normal)) 7924000000000000 (c .momentum-push-left .ensures) (momentum-near (c .args .left .depth) (c .args .left .normal) (facing (c .args .left)))) (lit< tt)
+push-left c = wide-momentum (c .args .left) _ (c .momentum-push-left .ensures)
 
 abbrev push-right : After-momentum-push-right → Wide
-push-right c = store (given (c .momentum-push-right .result) (momentum (c .args .right .depth) (c .args .right .normal)) 7924000000000000 (c .momentum-push-right .ensures) (momentum-near (c .args .right .depth) (c .args .right .normal) (facing (c .args .right)))) (lit< tt)
+push-right c = wide-momentum (c .args .right) _ (c .momentum-push-right .ensures)
 
 abbrev rise : After-momentum-push-right → Wide
 rise c = less (depth-right c) (depth-left c)

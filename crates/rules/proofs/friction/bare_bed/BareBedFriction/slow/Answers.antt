@@ -5,6 +5,7 @@ use mir.Syntax.{w64}
 use Rattle.std.proofs.shelf.Signed.{ints, toZ-ofZ}
 use Rattle.std.proofs.shelf.Bits.{mul-le}
 use Rattle.rules.specs.BareBed.{bare-slowed}
+use Rattle.rules.proofs.Wide.{held}
 use Rattle.rules.proofs.Frictions.{hold-pos}
 use Rattle.rules.proofs.friction.bare_bed.BareBedFriction.slow.Needs as need
 
@@ -27,6 +28,6 @@ reduced-requires c κs =
 pub returns : need.returns
 unfolding bare-slowed
 returns c =
-    let a = toZ-ofZ w64 (c .reduced .result) (record { sfits = c .reduced .ok }) in
+    let a = held _ _ (c .reduced .ok) (c .reduced .ensures) in
     let e = toZ-ofZ w64 (c .args .flow) (c .fits .flow) in
     cc

@@ -1,0 +1,3 @@
+pub mod Quantities
+pub mod Checks
+pub mod Replies
