@@ -1,0 +1,12 @@
+pub mod Ranges
+pub mod Numbers
+pub mod Faces
+pub mod Step
+pub mod Sheets
+pub mod Accounts
+pub mod Refusals
+pub mod Calls
+pub mod Turns
+pub mod Laws
+pub mod Soundings
+pub mod Limits
