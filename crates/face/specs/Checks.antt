@@ -1,8 +1,11 @@
--- The plain numbers of a question, and why one is refused.
-use Prim.Native.Nat.{_<_}
+-- The plain numbers of a question, and its first fault.
 use lib.IntN.{ℤ, pos, natAbs}
-use mathlib.Core.Bool.{false}
-use mathlib.Core.Path.{_≡_}
+use lib.Dec.{eqb, ltb}
+use mathlib.Core.Bool.{cond, _&&_}
+use Rattle.std.specs.declared.option.Option.{Option}
+use Rattle.std.specs.declared.option.Option.the-variants.{Some, None}
+use Rattle.face.specs.declared.quantity.Quantity.{Quantity}
+use Rattle.face.specs.declared.quantity.Quantity.the-variants.{Depth, FluxNumber, LeftDepth, LeftVelocity, RightDepth, RightVelocity, Coefficient, Strength, Flow, Speed, NewDepth, Rate}
 use Rattle.face.specs.declared.quantity.OutOfRange.{OutOfRange}
 use Rattle.face.specs.declared.quantity.OutOfRange.the-variants.{Beyond, DryMoving}
 use Rattle.face.specs.declared.question.Asked.{Asked}
@@ -23,7 +26,30 @@ plain (Flux name left right) = AskFlux (plain-flux name) (pos (left .depth)) (le
 plain (Bare bed s) = AskBare (pos (bed .coefficient)) (s .flow) (pos (s .speed)) (pos (s .depth)) (pos (s .rate))
 plain (Weed weed s) = AskWeed (pos (weed .strength)) (pos (weed .over .coefficient)) (s .flow) (pos (s .speed)) (pos (s .depth)) (pos (s .rate))
 
--- the number that a refusal names is out of range, or moves no water
-abbrev pub Refused : OutOfRange → Type 0
-Refused (Beyond quantity value) = within quantity value ≡ false
-Refused (DryMoving velocity value) = 0 < natAbs value
+-- ---- the first fault of a question, in the order in which its numbers stand
+
+-- that this number is out of its range, else what comes next
+abbrev pub beyond : Quantity → ℤ → Option OutOfRange → Option OutOfRange
+beyond quantity value next = cond (within quantity value) next (Some (Beyond quantity value))
+
+-- that water moves on a dry side
+abbrev pub dry-moving : Quantity → ℤ → ℤ → Option OutOfRange
+dry-moving quantity depth velocity = cond (eqb (natAbs depth) 0 && ltb 0 (natAbs velocity)) (Some (DryMoving quantity velocity)) None
+
+abbrev pub side-fault : Quantity → Quantity → ℤ → ℤ → Option OutOfRange
+side-fault depths velocities depth velocity = beyond depths depth (beyond velocities velocity (dry-moving velocities depth velocity))
+
+abbrev pub stream-fault : ℤ → ℤ → ℤ → ℤ → Option OutOfRange
+stream-fault flow speed depth rate = beyond Flow flow (beyond Speed speed (beyond NewDepth depth (beyond Rate rate None)))
+
+-- the first of two
+abbrev pub or-else : Option OutOfRange → Option OutOfRange → Option OutOfRange
+or-else (Some out) next = Some out
+or-else None next = next
+
+abbrev pub fault-of : Asked → Option OutOfRange
+fault-of (AskRoot depth) = beyond Depth depth None
+fault-of (AskFlux number dl vl dr vr) =
+    or-else (beyond FluxNumber number None) (or-else (side-fault LeftDepth LeftVelocity dl vl) (side-fault RightDepth RightVelocity dr vr))
+fault-of (AskBare c q u h d) = or-else (beyond Coefficient c None) (stream-fault q u h d)
+fault-of (AskWeed g c q u h d) = or-else (beyond Strength g (beyond Coefficient c None)) (stream-fault q u h d)

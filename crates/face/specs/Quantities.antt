@@ -1,7 +1,7 @@
 -- The range of each number of a question.
 use lib.IntN.{ℤ, pos, negℤ}
 use lib.Signed.{leZ}
-use mathlib.Core.Bool.{Bool, _&&_}
+use mathlib.Core.Bool.{Bool, true, false, _&&_}
 use Rattle.face.specs.declared.quantity.Quantity.{Quantity}
 use Rattle.face.specs.declared.quantity.Quantity.the-variants.{Depth, FluxNumber, LeftDepth, LeftVelocity, RightDepth, RightVelocity, Coefficient, Strength, Flow, Speed, NewDepth, Rate}
 
@@ -35,3 +35,18 @@ greatest-of Rate = pos 1000
 
 abbrev pub within : Quantity → ℤ → Bool
 within quantity value = leZ (least-of quantity) value && leZ value (greatest-of quantity)
+
+-- a number of a rule: out of its range it is refused by the rules' number
+abbrev pub of-rule : Quantity → Bool
+of-rule Depth = false
+of-rule FluxNumber = true
+of-rule LeftDepth = false
+of-rule LeftVelocity = false
+of-rule RightDepth = false
+of-rule RightVelocity = false
+of-rule Coefficient = true
+of-rule Strength = true
+of-rule Flow = false
+of-rule Speed = false
+of-rule NewDepth = false
+of-rule Rate = false

@@ -2,7 +2,7 @@
 ghost use mathlib.Core.Path.{_≡_};
 ghost use mathlib.Core.Bool.{true, false};
 ghost use Rattle.std.specs.Results.{Cases};
-ghost use Rattle.face.specs.Quantities.{least-of, greatest-of, within};
+ghost use Rattle.face.specs.Quantities.{least-of, greatest-of, within, of-rule};
 use std::fmt;
 
 #[derive(Clone, Copy)]
@@ -82,7 +82,9 @@ impl Quantity {
     }
 
     // Whether a number out of this range means that a rule cannot be made.
-    pub(crate) fn makes_rule(self) -> bool {
+    pub(crate) fn makes_rule(self) -> bool
+        ensures { λ r. ⌜ r ≡ of-rule self ⌝ }
+    {
         match self {
             Quantity::FluxNumber | Quantity::Coefficient | Quantity::Strength => true,
             _ => false,
