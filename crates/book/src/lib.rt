@@ -1,5 +1,7 @@
 // The words that calls and answers are made of. The water book itself, which says what each call makes of a sheet
 // and its account, stands in specs/, and `laws` has what every list of calls keeps.
+#![tactic(auto)]
+
 pub mod account;
 pub mod call;
 pub mod cell;

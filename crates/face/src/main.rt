@@ -1,4 +1,6 @@
 // Answers questions about one face or one friction, a line each, from standard input to standard output.
+#![tactic(auto)]
+
 mod answer;
 mod checking;
 mod quantity;

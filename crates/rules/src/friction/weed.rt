@@ -1,5 +1,5 @@
 // Friction of weed that stands on a bed of any kind.
-ghost use Rattle.std.specs.Prelude.{◌≡◌, ◌<◌, ◌≤◌, MatchResult};
+ghost use Rattle.std.specs.Prelude.{◌≡◌, ◌<◌, ◌≤◌, MatchResult, ⊤};
 ghost use Rattle.rules.specs.declared.refusal.RuleRefusal.TheVariants.{Strength};
 ghost use Rattle.rules.specs.Weed.{weed_slowed};
 ghost use borrow.Author.Rules.{rules};
@@ -7,6 +7,7 @@ ghost use borrow.Author.Rules.{rules};
 use crate::friction::FrictionRule;
 use crate::friction::drag::with_size;
 use crate::refusal::RuleRefusal;
+use std::alloc::AllocError;
 
 // The greatest strength.
 pub const MAX_STRENGTH: u32 = 1_000_000_000;
@@ -15,6 +16,16 @@ pub struct Weed<R> {
     strength: u32,
     over: R,
     ghost small: { strength ≤ 1000000000 },
+}
+
+impl<R: Copy> Clone for Weed<R> {
+    ghost is_clone = { λ weed copy. copy ≡ weed };
+
+    ghost is_infallible = { λ _. ⊤ };
+
+    fn clone(&self) -> Result<Weed<R>, AllocError> {
+        Ok(*self)
+    }
 }
 
 impl<R: Copy> Copy for Weed<R> {}

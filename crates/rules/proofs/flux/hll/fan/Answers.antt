@@ -4,78 +4,78 @@ use Rattle.rules.specs.Wide.{Wide, given, number, store, times, plus, less, over
 use Rattle.rules.specs.Sides.{wide_depth, wide_discharge, wide_momentum}
 use Rattle.rules.specs.Fans.{width_pos, lean_near, jump_near}
 use Rattle.rules.proofs.flux.hll.fan.Goals as goal
-use Rattle.rules.proofs.flux.hll.fan.Goals.{After-momentum-push-right}
+use Rattle.rules.proofs.flux.hll.fan.Goals.{After-momentum-push_right}
 
-abbrev low : After-momentum-push-right → Wide
+abbrev low : After-momentum-push_right → Wide
 low c = store (given c.args.low c.args.low 24008 refl c.requires.low) (lit< tt)
 
-abbrev high : After-momentum-push-right → Wide
+abbrev high : After-momentum-push_right → Wide
 high c = store (given c.args.high c.args.high 24008 refl c.requires.high) (lit< tt)
 
-abbrev depth_left : After-momentum-push-right → Wide
-depth_left c = wide_depth c.args.left _ c.from-depth-left.ensures
+abbrev depth_left : After-momentum-push_right → Wide
+depth_left c = wide_depth c.args.left _ c.from-depth_left.ensures
 
-abbrev water_left : After-momentum-push-right → Wide
-water_left c = wide_discharge c.args.left _ c.discharge-water-left.ensures
+abbrev water_left : After-momentum-push_right → Wide
+water_left c = wide_discharge c.args.left _ c.discharge-water_left.ensures
 
-abbrev push_left : After-momentum-push-right → Wide
-push_left c = wide_momentum c.args.left _ c.momentum-push-left.ensures
+abbrev push_left : After-momentum-push_right → Wide
+push_left c = wide_momentum c.args.left _ c.momentum-push_left.ensures
 
-abbrev depth_right : After-momentum-push-right → Wide
-depth_right c = wide_depth c.args.right _ c.from-depth-right.ensures
+abbrev depth_right : After-momentum-push_right → Wide
+depth_right c = wide_depth c.args.right _ c.from-depth_right.ensures
 
-abbrev water_right : After-momentum-push-right → Wide
-water_right c = wide_discharge c.args.right _ c.discharge-water-right.ensures
+abbrev water_right : After-momentum-push_right → Wide
+water_right c = wide_discharge c.args.right _ c.discharge-water_right.ensures
 
-abbrev push_right : After-momentum-push-right → Wide
-push_right c = wide_momentum c.args.right _ c.momentum-push-right.ensures
+abbrev push_right : After-momentum-push_right → Wide
+push_right c = wide_momentum c.args.right _ c.momentum-push_right.ensures
 
-abbrev wide : After-momentum-push-right → Wide
+abbrev wide : After-momentum-push_right → Wide
 wide c = less (high c) (low c)
 
-abbrev product : After-momentum-push-right → Wide
+abbrev product : After-momentum-push_right → Wide
 product c = times (low c) (high c)
 
-abbrev out : After-momentum-push-right → Wide
+abbrev out : After-momentum-push_right → Wide
 out c = times (high c) (water_left c)
 
-abbrev back : After-momentum-push-right → Wide
+abbrev back : After-momentum-push_right → Wide
 back c = times (low c) (water_right c)
 
-abbrev flow : After-momentum-push-right → Wide
+abbrev flow : After-momentum-push_right → Wide
 flow c = less (store (out c) (lit< tt)) (store (back c) (lit< tt))
 
-abbrev spread : After-momentum-push-right → Wide
+abbrev spread : After-momentum-push_right → Wide
 spread c = times (store (product c) (lit< tt)) (store (less (depth_right c) (depth_left c)) (lit< tt))
 
-abbrev above : After-momentum-push-right → Wide
+abbrev above : After-momentum-push_right → Wide
 above c = plus (store (flow c) (lit< tt)) (store (spread c) (lit< tt))
 
-abbrev water : After-momentum-push-right → Wide
+abbrev water : After-momentum-push_right → Wide
 water c = by (store (above c) (lit< tt)) (store (wide c) (lit< tt))
 
-abbrev slope : After-momentum-push-right → Wide
+abbrev slope : After-momentum-push_right → Wide
 slope c = by (store (less (push_left c) (push_right c)) (lit< tt)) (store (wide c) (lit< tt))
 
-abbrev lean : After-momentum-push-right → Wide
+abbrev lean : After-momentum-push_right → Wide
 lean c = within (times (store (plus (low c) (high c)) (lit< tt)) (store (slope c) (lit< tt))) 15848000000000000 (lean_near c.args.low c.args.high (less (push_left c) (push_right c)).meant 15848000000000000 c.requires.left c.requires.right (less (push_left c) (push_right c)).near)
 
-abbrev twenty : After-momentum-push-right → Wide
+abbrev twenty : After-momentum-push_right → Wide
 twenty c = times (number 20) (store (product c) (lit< tt))
 
-abbrev share : After-momentum-push-right → Wide
+abbrev share : After-momentum-push_right → Wide
 share c = within (by (store (twenty c) (lit< tt)) (store (wide c) (lit< tt))) 480160 (omega (arith, jump_near c.args.low c.args.high c.requires.left c.requires.right, c.requires.low))
 
-abbrev jump : After-momentum-push-right → Wide
+abbrev jump : After-momentum-push_right → Wide
 jump c = times (store (share c) (lit< tt)) (store (less (water_right c) (water_left c)) (lit< tt))
 
-abbrev both : After-momentum-push-right → Wide
+abbrev both : After-momentum-push_right → Wide
 both c = plus (push_left c) (push_right c)
 
-abbrev all : After-momentum-push-right → Wide
+abbrev all : After-momentum-push_right → Wide
 all c = plus (store (both c) (lit< tt)) (store (lean c) (lit< tt))
 
-abbrev push : After-momentum-push-right → Wide
+abbrev push : After-momentum-push_right → Wide
 push c = plus (store (over (store (all c) (lit< tt)) 2) (lit< tt)) (store (jump c) (lit< tt))
 
 pub overflow-mul-water : goal.overflow-mul-water

@@ -20,8 +20,8 @@ with-size-requires c = omega (arith, ints, c.requires.within)
 pub returns : goal.returns
 unfolding quot_up
 returns c =
-    let a = held _ _ c.with-size.type-inv c.with-size.ensures in
+    let a = held _ _ c.with_size.type_inv c.with_size.ensures in
     let e = to_z-of_z w64 c.args.flow c.ranges.flow in
-    let s : c.unsigned-abs-size.result ≡ nat_abs c.args.flow = omega (arith, ints) in
+    let s : c.unsigned_abs-size.result ≡ nat_abs c.args.flow = omega (arith, ints) in
     let d = dragged_is c.args.hold c.args.drag c.args.flow c.requires.some-hold in
     cc

@@ -16,7 +16,7 @@ reduced-requires c =
     let e = to_z-of_z w64 c.args.flow c.ranges.flow in
     let q : nat_abs c.args.flow ≤ 30000000000 = omega arith in
     record {
-      some-hold = hold_pos c.from.result c.from-2.result (omega arith) (omega arith);
+      some_hold = hold_pos c.from.result c.from-2.result (omega arith) (omega arith);
       sum = omega arith;
       within = omega (arith, ints);
       product = simp e (omega (arith, mul-le (nat_abs c.args.flow) (c.from-3.result * c.from-4.result) 30000000000 10000000 q drag));
@@ -25,6 +25,6 @@ reduced-requires c =
 pub returns : goal.returns
 unfolding bare_slowed
 returns c =
-    let a = held _ _ c.reduced.type-inv c.reduced.ensures in
+    let a = held _ _ c.reduced.type_inv c.reduced.ensures in
     let e = to_z-of_z w64 c.args.flow c.ranges.flow in
     cc
