@@ -3,11 +3,11 @@ use Rattle.rules.specs.Root.{LeastRoot}
 use Rattle.rules.specs.Roots.{Short, square_mono, short_more, root_only}
 use Rattle.rules.proofs.root.root.Goals as goal
 
-pub overflow-mul-near-then-near-gt0 : goal.overflow-mul-near-then-near-gt0
-overflow-mul-near-then-near-gt0 c = omega (arith, square_mono (c.estimate-near.result - 1) 1048576 (omega arith))
+pub overflow_mul-near-then-near-gt0 : goal.overflow_mul-near-then-near-gt0
+overflow_mul-near-then-near-gt0 c = omega (arith, square_mono (c.estimate-near.result - 1) 1048576 (omega arith))
 
-pub overflow-mul-near-then-near-target-2 : goal.overflow-mul-near-then-near-target-2
-overflow-mul-near-then-near-target-2 c = omega (arith, square_mono c.estimate-near.result 1048576 (omega arith))
+pub overflow_mul-near-then-near-target-2 : goal.overflow_mul-near-then-near-target-2
+overflow_mul-near-then-near-target-2 c = omega (arith, square_mono c.estimate-near.result 1048576 (omega arith))
 
 pub returns-then-target-near : goal.returns-then-target-near
 returns-then-target-near c =

@@ -5,8 +5,8 @@ use Rattle.rules.proofs.root.search.Goals as goal
 pub loop-size-init : goal.loop-size-init
 loop-size-init c = (lit< tt, lit≤ tt, λ s k. omega arith, omega arith)
 
-pub overflow-mul-last-in-loop-size : goal.overflow-mul-last-in-loop-size
-overflow-mul-last-in-loop-size c = omega (arith, square_mono (c.loop-size.low + c.loop-size.size / 2 - 1) 1048576 (omega arith))
+pub overflow_mul-last-in-loop-size : goal.overflow_mul-last-in-loop-size
+overflow_mul-last-in-loop-size c = omega (arith, square_mono (c.loop-size.low + c.loop-size.size / 2 - 1) 1048576 (omega arith))
 
 pub loop-size-preserved-then-last-target : goal.loop-size-preserved-then-last-target
 loop-size-preserved-then-last-target c =

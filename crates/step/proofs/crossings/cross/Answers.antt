@@ -31,7 +31,7 @@ invariant-of-result g c =
     let fast = ltb-false c.args.span (4 * pace (face_seen c.args.face)) (sym c.if-too-slow.ensures) in
     let back : to_z w64 (of_z w64 c.flux-water.result.0) ≡ c.flux-water.result.0 = omega (arith, ints) in
     let pushed : to_z w64 (of_z w64 c.flux-water.result.1) ≡ c.flux-water.result.1 = omega (arith, ints) in
-    let e = water_held (to_z w64 (of_z w64 c.flux-water.result.0)) (W l.depth l.normal r.depth r.normal) c.passing-water.result c.args.span (back ∙ c.flux-water.ensures.water) c.passing-water.type-inv c.passing-water.ensures in (
+    let e = water_held (to_z w64 (of_z w64 c.flux-water.result.0)) (W l.depth l.normal r.depth r.normal) c.passing-water.result c.args.span (back ∙ c.flux-water.ensures.water) c.passing-water.type_inv c.passing-water.ensures in (
       subst (λ (z : ℤ). (pos 4 *ℤ z) ≤ℤ pos l.depth) (sym e) (gives_left W P lawful l r c.args.span fast),
       (
         subst (λ (z : ℤ). (pos 4 *ℤ neg_ℤ z) ≤ℤ pos r.depth) (sym e) (gives_right W P lawful l r c.args.span fast),
@@ -54,9 +54,9 @@ returns g c slowed =
     let back : to_z w64 (of_z w64 c.flux-water.result.0) ≡ c.flux-water.result.0 = omega (arith, ints) in
     let pushed : to_z w64 (of_z w64 c.flux-water.result.1) ≡ c.flux-water.result.1 = omega (arith, ints) in
     record {
-      passes = water_held (to_z w64 (of_z w64 c.flux-water.result.0)) (W l.depth l.normal r.depth r.normal) c.passing-water.result c.args.span (back ∙ c.flux-water.ensures.water) c.passing-water.type-inv c.passing-water.ensures;
+      passes = water_held (to_z w64 (of_z w64 c.flux-water.result.0)) (W l.depth l.normal r.depth r.normal) c.passing-water.result c.args.span (back ∙ c.flux-water.ensures.water) c.passing-water.type_inv c.passing-water.ensures;
       pushes = pushed ∙ c.flux-water.ensures.push;
-      carries = held _ _ c.carried-carried.type-inv (c.carried-carried.ensures.value (rules_of g.F.FluxRule.number W P slowed) (back ∙ c.flux-water.ensures.water));
+      carries = held _ _ c.carried-carried.type_inv (c.carried-carried.ensures.value (rules_of g.F.FluxRule.number W P slowed) (back ∙ c.flux-water.ensures.water));
       left_depth = refl;
       right_depth = refl;
       fast = ltb-false c.args.span (4 * pace (face_seen c.args.face)) (sym c.if-too-slow.ensures);

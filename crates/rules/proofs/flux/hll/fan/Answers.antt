@@ -78,50 +78,50 @@ all c = plus (store (both c) (lit< tt)) (store (lean c) (lit< tt))
 abbrev push : After-momentum-push_right → Wide
 push c = plus (store (over (store (all c) (lit< tt)) 2) (lit< tt)) (store (jump c) (lit< tt))
 
-pub overflow-mul-water : goal.overflow-mul-water
-overflow-mul-water c = fits (out c) (lit< tt)
+pub overflow_mul-water : goal.overflow_mul-water
+overflow_mul-water c = fits (out c) (lit< tt)
 
-pub overflow-mul-water-2 : goal.overflow-mul-water-2
-overflow-mul-water-2 c = fits (back c) (lit< tt)
+pub overflow_mul-water-2 : goal.overflow_mul-water-2
+overflow_mul-water-2 c = fits (back c) (lit< tt)
 
-pub overflow-sub-water : goal.overflow-sub-water
-overflow-sub-water c = fits (flow c) (lit< tt)
+pub overflow_sub-water : goal.overflow_sub-water
+overflow_sub-water c = fits (flow c) (lit< tt)
 
-pub overflow-mul-water-3 : goal.overflow-mul-water-3
-overflow-mul-water-3 c = fits (spread c) (lit< tt)
+pub overflow_mul-water-3 : goal.overflow_mul-water-3
+overflow_mul-water-3 c = fits (spread c) (lit< tt)
 
-pub overflow-add-water : goal.overflow-add-water
-overflow-add-water c = fits (above c) (lit< tt)
+pub overflow_add-water : goal.overflow_add-water
+overflow_add-water c = fits (above c) (lit< tt)
 
-pub nonzero-div-water : goal.nonzero-div-water
-nonzero-div-water c = (divisor (wide c) (width_pos c.args.low c.args.high c.requires.left c.requires.right), fits (water c) (lit< tt))
+pub nonzero_div-water : goal.nonzero_div-water
+nonzero_div-water c = (divisor (wide c) (width_pos c.args.low c.args.high c.requires.left c.requires.right), fits (water c) (lit< tt))
 
-pub overflow-sub-lean : goal.overflow-sub-lean
-overflow-sub-lean c = fits (less (push_left c) (push_right c)) (lit< tt)
+pub overflow_sub-lean : goal.overflow_sub-lean
+overflow_sub-lean c = fits (less (push_left c) (push_right c)) (lit< tt)
 
-pub nonzero-div-lean : goal.nonzero-div-lean
-nonzero-div-lean c = (divisor (wide c) (width_pos c.args.low c.args.high c.requires.left c.requires.right), fits (slope c) (lit< tt))
+pub nonzero_div-lean : goal.nonzero_div-lean
+nonzero_div-lean c = (divisor (wide c) (width_pos c.args.low c.args.high c.requires.left c.requires.right), fits (slope c) (lit< tt))
 
-pub overflow-mul-lean : goal.overflow-mul-lean
-overflow-mul-lean c = fits (lean c) (lit< tt)
+pub overflow_mul-lean : goal.overflow_mul-lean
+overflow_mul-lean c = fits (lean c) (lit< tt)
 
-pub nonzero-div-jump : goal.nonzero-div-jump
-nonzero-div-jump c = (divisor (wide c) (width_pos c.args.low c.args.high c.requires.left c.requires.right), fits (share c) (lit< tt))
+pub nonzero_div-jump : goal.nonzero_div-jump
+nonzero_div-jump c = (divisor (wide c) (width_pos c.args.low c.args.high c.requires.left c.requires.right), fits (share c) (lit< tt))
 
-pub overflow-sub-jump : goal.overflow-sub-jump
-overflow-sub-jump c = fits (less (water_right c) (water_left c)) (lit< tt)
+pub overflow_sub-jump : goal.overflow_sub-jump
+overflow_sub-jump c = fits (less (water_right c) (water_left c)) (lit< tt)
 
-pub overflow-mul-jump-2 : goal.overflow-mul-jump-2
-overflow-mul-jump-2 c = fits (jump c) (lit< tt)
+pub overflow_mul-jump-2 : goal.overflow_mul-jump-2
+overflow_mul-jump-2 c = fits (jump c) (lit< tt)
 
-pub overflow-add-push : goal.overflow-add-push
-overflow-add-push c = fits (both c) (lit< tt)
+pub overflow_add-push : goal.overflow_add-push
+overflow_add-push c = fits (both c) (lit< tt)
 
-pub overflow-add-push-2 : goal.overflow-add-push-2
-overflow-add-push-2 c = fits (all c) (lit< tt)
+pub overflow_add-push-2 : goal.overflow_add-push-2
+overflow_add-push-2 c = fits (all c) (lit< tt)
 
-pub overflow-add-push-3 : goal.overflow-add-push-3
-overflow-add-push-3 c = fits (push c) (lit< tt)
+pub overflow_add-push-3 : goal.overflow_add-push-3
+overflow_add-push-3 c = fits (push c) (lit< tt)
 
 pub returns : goal.returns
 unfolding fan_water fan_push

@@ -7,8 +7,8 @@ use Rattle.rules.proofs.side.FaceSide.discharge.Goals as goal
 abbrev product : goal.After-from-2 → Wide
 product c = times (wide_depth c.args.self _ c.from.ensures) (wide_normal c.args.self _ c.from-2.ensures)
 
-pub overflow-mul-result : goal.overflow-mul-result
-overflow-mul-result c = fits (product c) (lit< tt)
+pub overflow_mul-result : goal.overflow_mul-result
+overflow_mul-result c = fits (product c) (lit< tt)
 
 pub returns : goal.returns
 unfolding discharge

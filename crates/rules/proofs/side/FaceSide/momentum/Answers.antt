@@ -19,17 +19,17 @@ weight c = times (number 981) (store (times (depth c) (depth c)) (lit< tt))
 abbrev whole : goal.After-from-normal → Wide
 whole c = plus (store (flow c) (lit< tt)) (store (weight c) (lit< tt))
 
-pub overflow-mul-result-3 : goal.overflow-mul-result-3
-overflow-mul-result-3 c = fits (flow c) (lit< tt)
+pub overflow_mul-result-3 : goal.overflow_mul-result-3
+overflow_mul-result-3 c = fits (flow c) (lit< tt)
 
-pub overflow-mul-result-4 : goal.overflow-mul-result-4
-overflow-mul-result-4 c = fits (times (depth c) (depth c)) (lit< tt)
+pub overflow_mul-result-4 : goal.overflow_mul-result-4
+overflow_mul-result-4 c = fits (times (depth c) (depth c)) (lit< tt)
 
-pub overflow-mul-result-5 : goal.overflow-mul-result-5
-overflow-mul-result-5 c = fits (weight c) (lit< tt)
+pub overflow_mul-result-5 : goal.overflow_mul-result-5
+overflow_mul-result-5 c = fits (weight c) (lit< tt)
 
-pub overflow-add-result : goal.overflow-add-result
-overflow-add-result c = fits (whole c) (lit< tt)
+pub overflow_add-result : goal.overflow_add-result
+overflow_add-result c = fits (whole c) (lit< tt)
 
 pub returns : goal.returns
 unfolding momentum

@@ -4,8 +4,8 @@ use Rattle.rules.specs.Side.{pace_of}
 use Rattle.rules.specs.Sides.{root_near}
 use Rattle.rules.proofs.side.FaceSide.pace.Goals as goal
 
-pub overflow-add-result : goal.overflow-add-result
-overflow-add-result c = omega (arith, ints, root_near c.args.self.depth c.args.self.shallow, c.args.self.celerity)
+pub overflow_add-result : goal.overflow_add-result
+overflow_add-result c = omega (arith, ints, root_near c.args.self.depth c.args.self.shallow, c.args.self.celerity)
 
 pub returns : goal.returns
 unfolding pace_of

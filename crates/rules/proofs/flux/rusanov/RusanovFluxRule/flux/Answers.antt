@@ -42,29 +42,29 @@ drag c = times (store (times (number 20) (pace c)) (lit< tt)) (store (less (wate
 abbrev push : After-momentum-push_right → Wide
 push c = less (store (plus (push_left c) (push_right c)) (lit< tt)) (store (drag c) (lit< tt))
 
-pub overflow-add-water : goal.overflow-add-water
-overflow-add-water c = fits (plus (water_left c) (water_right c)) (lit< tt)
+pub overflow_add-water : goal.overflow_add-water
+overflow_add-water c = fits (plus (water_left c) (water_right c)) (lit< tt)
 
-pub overflow-sub-water : goal.overflow-sub-water
-overflow-sub-water c = fits (rise c) (lit< tt)
+pub overflow_sub-water : goal.overflow_sub-water
+overflow_sub-water c = fits (rise c) (lit< tt)
 
-pub overflow-mul-water : goal.overflow-mul-water
-overflow-mul-water c = fits (jump c) (lit< tt)
+pub overflow_mul-water : goal.overflow_mul-water
+overflow_mul-water c = fits (jump c) (lit< tt)
 
-pub overflow-sub-water-2 : goal.overflow-sub-water-2
-overflow-sub-water-2 c = fits (water c) (lit< tt)
+pub overflow_sub-water-2 : goal.overflow_sub-water-2
+overflow_sub-water-2 c = fits (water c) (lit< tt)
 
-pub overflow-add-push : goal.overflow-add-push
-overflow-add-push c = fits (plus (push_left c) (push_right c)) (lit< tt)
+pub overflow_add-push : goal.overflow_add-push
+overflow_add-push c = fits (plus (push_left c) (push_right c)) (lit< tt)
 
-pub overflow-sub-push : goal.overflow-sub-push
-overflow-sub-push c = fits (less (water_right c) (water_left c)) (lit< tt)
+pub overflow_sub-push : goal.overflow_sub-push
+overflow_sub-push c = fits (less (water_right c) (water_left c)) (lit< tt)
 
-pub overflow-mul-push-2 : goal.overflow-mul-push-2
-overflow-mul-push-2 c = fits (drag c) (lit< tt)
+pub overflow_mul-push-2 : goal.overflow_mul-push-2
+overflow_mul-push-2 c = fits (drag c) (lit< tt)
 
-pub overflow-sub-push-2 : goal.overflow-sub-push-2
-overflow-sub-push-2 c = fits (push c) (lit< tt)
+pub overflow_sub-push-2 : goal.overflow_sub-push-2
+overflow_sub-push-2 c = fits (push c) (lit< tt)
 
 pub returns : goal.returns
 unfolding rusanov_water rusanov_push

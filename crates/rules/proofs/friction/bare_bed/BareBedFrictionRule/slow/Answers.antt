@@ -6,8 +6,8 @@ use Rattle.rules.specs.Wide.{held}
 use Rattle.rules.specs.Frictions.{hold_pos}
 use Rattle.rules.proofs.friction.bare_bed.BareBedFrictionRule.slow.Goals as goal
 
-pub overflow-mul-hold-2 : goal.overflow-mul-hold-2
-overflow-mul-hold-2 c = omega (arith, mul-le c.from.result c.from-2.result 1000 2000000 (omega arith) (omega arith))
+pub overflow_mul-hold-2 : goal.overflow_mul-hold-2
+overflow_mul-hold-2 c = omega (arith, mul-le c.from.result c.from-2.result 1000 2000000 (omega arith) (omega arith))
 
 pub reduced-requires : goal.reduced-requires
 reduced-requires c =
