@@ -1,5 +1,5 @@
 -- The state between two waves a < 0 < b that go apart: its bounds, between equal sides, and seen from across the face.
-use Rattle.std.specs.Prelude.{◌≡◌, ℕ, ◌+◌, ◌-◌, ◌*◌, ◌/◌, ◌^◌, ◌<◌, ◌≤◌, ℤ, pos, ◌+ℤ◌, ◌-ℤ◌, ◌*ℤ◌, neg_ℤ, ◌≤ℤ◌, ◌<ℤ◌, int_div, unsigned_abs}
+use Rattle.std.specs.Prelude.{◌≡◌, ℕ, ◌+◌, ◌*◌, ◌/◌, ◌^◌, ◌≤◌, ℤ, pos, ◌+ℤ◌, ◌-ℤ◌, ◌*ℤ◌, neg_ℤ, ◌≤ℤ◌, ◌<ℤ◌, int_div, unsigned_abs}
 use Rattle.std.proofs.Common.{sym, ap, subst, ◌∙◌, mul-le-mul_left, arith}
 use Rattle.std.proofs.Math.Nat.{div-le_of_le-mul, mul-div-le, zero-div}
 use Rattle.std.proofs.lemmas.Int.{ints}

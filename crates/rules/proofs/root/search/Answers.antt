@@ -1,4 +1,4 @@
-use Rattle.std.proofs.Common.{ℕ, ◌+◌, ◌-◌, ◌*◌, ◌/◌, ◌<◌, ◌≤◌, subst, arith, lit<, lit≤}
+use Rattle.std.proofs.Common.{ℕ, ◌+◌, ◌-◌, ◌*◌, ◌/◌, subst, arith, lit<, lit≤}
 use Rattle.rules.specs.Roots.{First, square_mono, upper_half, at_end, least_of, root_only}
 use Rattle.rules.proofs.root.search.Goals as goal
 

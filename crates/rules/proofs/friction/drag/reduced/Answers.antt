@@ -1,6 +1,6 @@
 use Rattle.std.proofs.Common.{◌≡◌, ℕ, ◌*◌, nat_abs, ap, arith, w64}
 use Rattle.std.proofs.lemmas.Int.{ints, to_z-of_z}
-use Rattle.rules.specs.Drag.{with_size, quot_up}
+use Rattle.rules.specs.Drag.{quot_up}
 use Rattle.rules.specs.Wide.{held}
 use Rattle.rules.specs.Frictions.{takes_within, dragged_is}
 use Rattle.rules.proofs.friction.drag.reduced.Goals as goal
