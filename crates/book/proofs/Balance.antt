@@ -1,5 +1,5 @@
 -- The account adds up: all water that stands, soaked away or left is what was poured, rained or came in.
-use Rattle.std.proofs.Common.{◌≡◌, ℕ, suc, ◌+◌, ◌-◌, ◌<◌, min, false, List, [], ◌∷◌, map, neg_ℤ, sym, refl, ap, ◌∙◌, subst, inl, inr, add-one, arith}
+use Rattle.std.proofs.Common.{◌≡◌, ℕ, suc, ◌+◌, ◌<◌, min, false, List, [], ◌∷◌, map, neg_ℤ, sym, refl, ap, ◌∙◌, subst, inl, inr, add-one, arith}
 use lib.IntN.{neg_ℤ-neg_ℤ}
 use Rattle.book.specs.declared.cell.Cell.{Cell}
 use Rattle.book.specs.declared.side.Hand.{Hand}

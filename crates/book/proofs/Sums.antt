@@ -7,7 +7,6 @@ use Rattle.book.specs.declared.turn.Turn.{Turn}
 use Rattle.book.specs.declared.turn.Turn.TheVariants.{EastWest, SouthNorth, RowsColumns}
 use Rattle.book.specs.Sheets.{Table, Place, sum_below, some_below, some_place, some_hand}
 use Rattle.book.specs.Turns.{mirrored, turned_rows, turned_columns, turned_place}
-use Rattle.book.proofs.Neighbours.{rows_some, columns_some}
 
 -- ---- mirrored numbers
 

@@ -1,5 +1,5 @@
 -- One step: the turned sheet steps to the stepped sheet, turned, and its account goes along.
-use Rattle.std.proofs.Common.{◌≡◌, ℕ, ◌+◌, ◌-◌, ◌*◌, ◌<◌, ◌≤◌, false, ltb, sym, ap, ◌∙◌, ap₂}
+use Rattle.std.proofs.Common.{◌≡◌, ℕ, ◌+◌, ◌*◌, ◌<◌, ◌≤◌, false, ltb, sym, ap, ◌∙◌, ap₂}
 use mathlib.Core.Path.{fun_ext}
 use Rattle.book.specs.declared.side.Hand.{Hand}
 use Rattle.book.specs.declared.side.Hand.TheVariants.{West, East, South, North}

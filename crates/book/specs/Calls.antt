@@ -1,5 +1,5 @@
 -- The water book: it is fed the arguments of the calls and nothing else, keeps a table and an account of its own, and answers and refuses by these.
-use Rattle.std.specs.Prelude.{ℕ, zero, suc, ◌+◌, ◌-◌, ◌*◌, min, Bool, true, false, cond, not, ◌&&◌, ◌||◌, ltb, List, [], ◌∷◌, map, ℤ, pos, ◌*ℤ◌, neg_ℤ, Some, None, ◌==◌, nat_lt, slice_set, unsigned_abs}
+use Rattle.std.specs.Prelude.{ℕ, zero, suc, ◌+◌, ◌-◌, ◌*◌, min, Bool, true, false, cond, not, ◌&&◌, ◌||◌, List, [], ◌∷◌, map, ℤ, pos, ◌*ℤ◌, neg_ℤ, Some, None, ◌==◌, nat_lt, slice_set, unsigned_abs}
 use Rattle.book.specs.declared.cell.Cell.{Cell}
 use Rattle.book.specs.declared.side.Hand.{Hand}
 use Rattle.book.specs.declared.side.Hand.TheVariants.{West, East, South, North}
@@ -84,7 +84,7 @@ side_amiss (suc (suc (suc (suc n)))) a b = true
 abbrev pub held_over : Table → Hand → Side → Bool
 held_over t hand Wall = false
 held_over t hand Open = false
-held_over t hand (Held level) = some_side t hand (λ r c. ltb max_depth (held_depth level (cell_at t r c).bed))
+held_over t hand (Held level) = some_side t hand (λ r c. nat_lt max_depth (held_depth level (cell_at t r c).bed))
 held_over t hand (Fed depth speed) = false
 
 -- ---- the slowest rate
@@ -181,7 +181,7 @@ module _ (rules : Rules) where
       ∷ fault (full (account_after_step rules b.table rate b.account)) FullAccount ∷ []
   faults b (Rain amount) =
       fault (amount_amiss amount) Amount
-      ∷ fault (some_place b.table (λ r c. ltb max_depth ((cell_at b.table r c).depth + amount))) Brim
+      ∷ fault (some_place b.table (λ r c. nat_lt max_depth ((cell_at b.table r c).depth + amount))) Brim
       ∷ fault (full (rain_more b.account (rained_on b.table amount))) FullAccount ∷ []
   faults b (Soak amount) =
       fault (amount_amiss amount) Amount

@@ -1,5 +1,5 @@
 -- A sheet of cells as a table: its places, neighbours and sides, what a step does at each place, and sums and tests over places.
-use Rattle.std.specs.Prelude.{ℕ, zero, suc, ◌+◌, ◌-◌, ◌*◌, ◌/◌, ◌%◌, Bool, false, cond, ◌||◌, ltb, List, [], ◌∷◌, map, replicate, pos, Some, None, Option, nat_le, nat_lt, slice_index_or}
+use Rattle.std.specs.Prelude.{ℕ, zero, suc, ◌+◌, ◌-◌, ◌*◌, ◌/◌, ◌%◌, Bool, false, cond, ◌||◌, List, [], ◌∷◌, map, replicate, pos, Some, None, Option, nat_le, nat_lt, slice_index_or}
 use Rattle.std.specs.List.{range_with_len}
 use Rattle.book.specs.declared.cell.Cell.{Cell}
 use Rattle.book.specs.declared.side.Hand.{Hand}
@@ -156,7 +156,7 @@ span t rate = t.width * rate
 
 -- 4·m exceeds K on some face
 abbrev pub too_slow : Table → ℕ → Bool
-too_slow t rate = some_place t (λ r c. some_hand (λ hand. ltb (span t rate) (4 * pace (face t r c hand))))
+too_slow t rate = some_place t (λ r c. some_hand (λ hand. nat_lt (span t rate) (4 * pace (face t r c hand))))
 
 module _ (rules : Rules) (t : Table) (rate : ℕ) where
   -- the water that leaves the cell in row r and column c over its face to the given hand, and what arrives there

@@ -2,7 +2,7 @@
 ghost use Rattle.std.specs.Prelude.{◌≡◌, ◌<◌, ◌≤◌, MatchResult, ⊤};
 ghost use Rattle.rules.specs.declared.refusal.RuleRefusal.TheVariants.{Strength};
 ghost use Rattle.rules.specs.Weed.{weed_slowed};
-ghost use borrow.Author.Rules.{rules};
+ghost use Rattle.std.proofs.Common.{rules};
 
 use crate::friction::FrictionRule;
 use crate::friction::drag::with_size;
