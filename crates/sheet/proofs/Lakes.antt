@@ -1,5 +1,5 @@
 -- The table of a lake is sound, and what is sound makes a lake.
-use Rattle.std.proofs.Common.{◌≡◌, ℕ, zero, suc, ◌+◌, ◌*◌, ◌<◌, ◌≤◌, Bool, true, false, ◌||◌, ltb, List, [], ◌∷◌, map, length, get_or, pos, nat_abs, vec_items, sym, refl, ap, ◌∙◌, subst, arith}
+use Rattle.std.proofs.Common.{◌≡◌, ℕ, zero, suc, ◌+◌, ◌*◌, ◌<◌, ◌≤◌, Bool, false, ◌||◌, ltb, List, [], ◌∷◌, length, get_or, nat_abs, vec_items, refl, ◌∙◌, subst, arith}
 use Rattle.std.proofs.lemmas.List.{get_or-map, length-map}
 use Rattle.std.proofs.lemmas.Bool.{ltb-false, le-ltb, or_parts}
 use Rattle.book.specs.declared.cell.Cell.{Cell}
@@ -9,14 +9,14 @@ use Rattle.book.specs.declared.side.Side.{Side}
 use Rattle.book.specs.declared.side.Side.TheVariants.{Wall, Open, Held, Fed}
 use Rattle.book.specs.Ranges.{max_depth, max_velocity, outside, size_amiss}
 use Rattle.book.specs.Faces.{held_depth}
-use Rattle.book.specs.Sheets.{Table, no_cell, cell_at, side_at, some_below, some_hand, some_side, border_length, border_place, border_cell}
+use Rattle.book.specs.Sheets.{Table, no_cell, cell_at, side_at, some_below, some_hand, some_side, border_length, border_cell}
 use Rattle.book.proofs.Sound.{Ranged, GhostKept, Sound}
 use Rattle.book.proofs.Numbers.{inside}
 use Rattle.book.proofs.Sums.{none_below, no_hand}
 use Rattle.book.proofs.Grids.{place_below}
 use Rattle.sheet.specs.declared.water.Water.{Water}
 use Rattle.sheet.specs.declared.lake.Lake.{Lake}
-use Rattle.sheet.specs.Waters.{cell_of, cells_of, table_with}
+use Rattle.sheet.specs.Waters.{cell_of, cells_of}
 use Rattle.sheet.specs.Ghosts.{ghost_amiss, sides_amiss}
 use Rattle.sheet.specs.Tables.{lake_table}
 

@@ -1,5 +1,5 @@
 -- Sides whose ghost cells are in range.
-use Rattle.std.specs.Prelude.{ℕ, Bool, false, ◌||◌, nat_lt}
+use Rattle.std.specs.Prelude.{Bool, false, ◌||◌, nat_lt}
 use Rattle.book.specs.declared.cell.Cell.{Cell}
 use Rattle.book.specs.declared.side.Side.{Side}
 use Rattle.book.specs.declared.side.Side.TheVariants.{Wall, Open, Held, Fed}

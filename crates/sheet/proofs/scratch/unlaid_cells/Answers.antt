@@ -17,5 +17,5 @@ plain n m ws w e f g =
 
 pub returns : goal.returns
 returns c =
-    ap cells_of c.in-ok-resize.ensures.items
+    ap cells_of c.in_ok-resize.ensures.items
     ∙ plain c.args.count _ _ c.unlaid.result c.new-cells.ensures.items c.new-cells.ensures.len c.unlaid.ensures

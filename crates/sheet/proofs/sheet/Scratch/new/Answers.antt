@@ -9,7 +9,7 @@ use Rattle.sheet.proofs.sheet.Scratch.new.Goals as goal
 pub returns : goal.returns
 returns c =
     record {
-      cells = sym (length-map (vec_items c.in-ok-unlaid-cells.field-0) cell_of) ∙ ap (λ (ks : List Cell). length ks) c.in-ok-unlaid-cells.ensures ∙ length-replicate c.args.cells no_cell;
+      cells = sym (length-map (vec_items c.in_ok-unlaid_cells.field-0) cell_of) ∙ ap (λ (ks : List Cell). length ks) c.in_ok-unlaid_cells.ensures ∙ length-replicate c.args.cells no_cell;
       west = search rules;
       south = search rules;
       east = search rules;
