@@ -1,5 +1,5 @@
 -- How much a lawful flux lets through a face.
-use Rattle.std.proofs.Common.{◌≡◌, ℕ, ◌*◌, ◌<◌, ◌≤◌, ℤ, pos, negsuc, ◌*ℤ◌, neg_ℤ, nat_abs, ◌≤ℤ◌, sym, subst, mul-le-mul, arith}
+use Rattle.std.proofs.Common.{ℕ, ◌*◌, ◌≤◌, ℤ, pos, negsuc, ◌*ℤ◌, neg_ℤ, nat_abs, ◌≤ℤ◌, subst, mul-le-mul, arith}
 use Rattle.std.proofs.lemmas.Int.{ints}
 use Rattle.rules.specs.declared.side.FaceSide.{FaceSide}
 use Rattle.rules.specs.Side.{face_pace}

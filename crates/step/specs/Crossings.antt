@@ -1,5 +1,5 @@
 -- What crosses a face in one step, as the water book has it.
-use Rattle.std.specs.Prelude.{◌≡◌, ℕ, ◌*◌, ◌<◌, ◌≤◌, ℤ, Some, None, Option}
+use Rattle.std.specs.Prelude.{◌≡◌, ℕ, ◌*◌, ◌<◌, ◌≤◌, Some, None, Option}
 use Rattle.book.specs.Numbers.{trunc}
 use Rattle.book.specs.Faces.{Face, pace}
 use Rattle.book.specs.Step.{Rules, water, push, carried}

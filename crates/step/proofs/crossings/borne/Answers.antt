@@ -1,4 +1,4 @@
-use Rattle.std.proofs.Common.{sym, refl, subst, arith, lit<}
+use Rattle.std.proofs.Common.{refl, arith, lit<}
 use Rattle.rules.specs.Wide.{Wide, given, number, store, times, from32, fits}
 use Rattle.step.proofs.crossings.borne.Goals as goal
 use Rattle.step.proofs.crossings.borne.Goals.{After-from}

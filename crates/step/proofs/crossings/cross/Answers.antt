@@ -21,29 +21,25 @@ carried-carried-requires g c =
 water_held : (w z x : ℤ) (K : ℕ) → w ≡ z → mag x < 2 ^ 63 → x ≡ trunc w K → to_z w64 (of_z w64 x) ≡ trunc z K
 water_held w z x K e b f = held x (trunc z K) b (f ∙ ap (λ (v : ℤ). trunc v K) e)
 
-pub invariant-of-result : goal.invariant-of-result
-invariant-of-result g c =
+pub invariant_of-result : goal.invariant_of-result
+invariant_of-result g c =
     let lawful = g.met.F.FluxRule.lawful c.args.flux.now in
     let l = c.args.face.left.side in
     let r = c.args.face.right.side in
     let W = g.F.FluxRule.water c.args.flux.now in
     let P = g.F.FluxRule.push c.args.flux.now in
-    let fast = ltb-false c.args.span (4 * pace (face_seen c.args.face)) (sym c.if-too-slow.ensures) in
+    let fast = ltb-false c.args.span (4 * pace (face_seen c.args.face)) (sym c.if-too_slow.ensures) in
     let back : to_z w64 (of_z w64 c.flux-water.result.0) ≡ c.flux-water.result.0 = omega (arith, ints) in
     let pushed : to_z w64 (of_z w64 c.flux-water.result.1) ≡ c.flux-water.result.1 = omega (arith, ints) in
-    let e = water_held (to_z w64 (of_z w64 c.flux-water.result.0)) (W l.depth l.normal r.depth r.normal) c.passing-water.result c.args.span (back ∙ c.flux-water.ensures.water) c.passing-water.type_inv c.passing-water.ensures in (
-      subst (λ (z : ℤ). (pos 4 *ℤ z) ≤ℤ pos l.depth) (sym e) (gives_left W P lawful l r c.args.span fast),
-      (
-        subst (λ (z : ℤ). (pos 4 *ℤ neg_ℤ z) ≤ℤ pos r.depth) (sym e) (gives_right W P lawful l r c.args.span fast),
-        (
-          subst (λ (z : ℤ). nat_abs z ≤ 10 ^ 17) (sym (pushed ∙ c.flux-water.ensures.push)) (lawful.push_bounded _ _ _ _ (facing l) (facing r)),
-          (
-            omega (arith, ints, c.carried-carried.ensures.bound),
-            (l.shallow, (r.shallow, tt)),
-          ),
-        ),
-      ),
-    )
+    let e = water_held (to_z w64 (of_z w64 c.flux-water.result.0)) (W l.depth l.normal r.depth r.normal) c.passing-water.result c.args.span (back ∙ c.flux-water.ensures.water) c.passing-water.type_inv c.passing-water.ensures in
+    record {
+      rightward = subst (λ (z : ℤ). (pos 4 *ℤ z) ≤ℤ pos l.depth) (sym e) (gives_left W P lawful l r c.args.span fast);
+      leftward = subst (λ (z : ℤ). (pos 4 *ℤ neg_ℤ z) ≤ℤ pos r.depth) (sym e) (gives_right W P lawful l r c.args.span fast);
+      pushed = subst (λ (z : ℤ). nat_abs z ≤ 10 ^ 17) (sym (pushed ∙ c.flux-water.ensures.push)) (lawful.push_bounded _ _ _ _ (facing l) (facing r));
+      borne = omega (arith, ints, c.carried-carried.ensures.bound);
+      low = l.shallow;
+      high = r.shallow;
+    }
 
 pub returns : goal.returns
 returns g c slowed =
@@ -59,5 +55,5 @@ returns g c slowed =
       carries = held _ _ c.carried-carried.type_inv (c.carried-carried.ensures.value (rules_of g.F.FluxRule.number W P slowed) (back ∙ c.flux-water.ensures.water));
       left_depth = refl;
       right_depth = refl;
-      fast = ltb-false c.args.span (4 * pace (face_seen c.args.face)) (sym c.if-too-slow.ensures);
+      fast = ltb-false c.args.span (4 * pace (face_seen c.args.face)) (sym c.if-too_slow.ensures);
     }

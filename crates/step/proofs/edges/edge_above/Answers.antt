@@ -1,4 +1,4 @@
-use Rattle.std.proofs.Common.{◌≡◌, ℕ, ◌^◌, ◌<◌, ◌≤◌, ℤ, pos, ◌+ℤ◌, ◌-ℤ◌, ◌≤ℤ◌, ap, ◌∙◌, arith, w64, to_z, of_z}
+use Rattle.std.proofs.Common.{◌≡◌, ℕ, ◌^◌, ◌<◌, ℤ, pos, ◌+ℤ◌, ◌-ℤ◌, ◌≤ℤ◌, ap, ◌∙◌, arith, w64, to_z, of_z}
 use Rattle.std.proofs.lemmas.Int.{ints}
 use Rattle.book.specs.Numbers.{positive, where_wet}
 use Rattle.book.specs.Faces.{above}
@@ -15,14 +15,14 @@ edge_is : (e : Edge) (d : ℕ) (k : Column) (b : ℤ) → e.side.depth ≡ d →
     d ≡ positive ((pos k.depth +ℤ k.bed) -ℤ b) → edge_of e ≡ above b (column_of k)
 edge_is e d k b p q r s = cc
 
-pub positive-part-depth-requires : goal.positive-part-depth-requires
-positive-part-depth-requires c = small (to_z w64 (of_z w64 c.rise-over.result)) (omega (arith, ints))
+pub positive_part-depth-requires : goal.positive_part-depth-requires
+positive_part-depth-requires c = small (to_z w64 (of_z w64 c.rise_over.result)) (omega (arith, ints))
 
-pub edge-of-requires : goal.edge-of-requires
-edge-of-requires c = omega (arith, c.positive-part-depth.ensures, positive_le (to_z w64 (of_z w64 c.rise-over.result)) 2000000 (omega (arith, ints)))
+pub edge_of-requires : goal.edge_of-requires
+edge_of-requires c = omega (arith, c.positive_part-depth.ensures, positive_le (to_z w64 (of_z w64 c.rise_over.result)) 2000000 (omega (arith, ints)))
 
 pub returns : goal.returns
 returns c =
-    let e : to_z w64 (of_z w64 c.rise-over.result) ≡ (pos c.args.column.depth +ℤ c.args.column.bed) -ℤ c.args.bed = omega (arith, ints) in
-    edge_is c.edge-of.result c.positive-part-depth.result c.args.column c.args.bed c.edge-of.ensures.depth c.edge-of.ensures.normal c.edge-of.ensures.along
-    (c.positive-part-depth.ensures ∙ ap positive e)
+    let e : to_z w64 (of_z w64 c.rise_over.result) ≡ (pos c.args.column.depth +ℤ c.args.column.bed) -ℤ c.args.bed = omega (arith, ints) in
+    edge_is c.edge_of.result c.positive_part-depth.result c.args.column c.args.bed c.edge_of.ensures.depth c.edge_of.ensures.normal c.edge_of.ensures.along
+    (c.positive_part-depth.ensures ∙ ap positive e)

@@ -19,5 +19,5 @@ returns c =
     let r : SFits w32 c.args.right.bed = search rules in
     let most : c.max-bed.result ≡ int_max c.args.left.bed c.args.right.bed = simp to_z-of_z at c.max-bed.ensures.value in
     let back : to_z w32 (of_z w32 c.max-bed.result) ≡ c.max-bed.result = omega (arith, ints) in
-    face_is (to_z w32 (of_z w32 c.max-bed.result)) c.edge-above.result c.edge-above-2.result c.args.left c.args.right c.edge-above.ensures c.edge-above-2.ensures
+    face_is (to_z w32 (of_z w32 c.max-bed.result)) c.edge_above.result c.edge_above-2.result c.args.left c.args.right c.edge_above.ensures c.edge_above-2.ensures
     (back ∙ most ∙ greater_swap c.args.right.bed c.args.left.bed)

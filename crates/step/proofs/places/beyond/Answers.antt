@@ -1,4 +1,4 @@
-use Rattle.std.proofs.Common.{◌≡◌, None, Option, sym, ◌∙◌, subst, ap₂}
+use Rattle.std.proofs.Common.{Option, sym, ◌∙◌, subst, ap₂}
 use Rattle.book.specs.Sheets.{Place, cell_at, side_at}
 use Rattle.book.proofs.Neighbours.{Stands, stands}
 use Rattle.sheet.specs.Ghosts.{ghost_amiss}
@@ -6,10 +6,10 @@ use Rattle.sheet.specs.Tables.{lake_table}
 use Rattle.sheet.proofs.Lakes.{lake_sound, ghost_fine}
 use Rattle.step.proofs.places.beyond.Goals as goal
 
-pub ghost-beyond-requires : goal.ghost-beyond-requires
-ghost-beyond-requires c =
+pub ghost_beyond-requires : goal.ghost_beyond-requires
+ghost_beyond-requires c =
     let l = c.args.lake.now in
     let t = lake_table l in
     let p = c.args.place in
     let kept = subst (λ (o : Option Place). Stands t p.row p.column c.args.hand o) (sym c.in-None.ensures.value) (stands t (lake_sound l) p.row p.column c.requires.row c.requires.column c.args.hand) in
-    ap₂ ghost_amiss c.side-to.ensures c.water-at-in-None.ensures ∙ ghost_fine (side_at t c.args.hand) (cell_at t p.row p.column) kept
+    ap₂ ghost_amiss c.side_to.ensures c.water_at-in-None.ensures ∙ ghost_fine (side_at t c.args.hand) (cell_at t p.row p.column) kept

@@ -10,5 +10,5 @@ returns c =
     let ws = vec_items c.args.lake.now.cells in
     let w = c.index.result.now in
     ap (λ (x : Water). x.cell) c.index.ensures
-    ∙ sym (cell_read ws c.number-of.result w c.number-of.ensures.bound)
-    ∙ ap (λ k. get_or (cells_of ws) k no_cell) c.number-of.ensures.value
+    ∙ sym (cell_read ws c.number_of.result w c.number_of.ensures.bound)
+    ∙ ap (λ k. get_or (cells_of ws) k no_cell) c.number_of.ensures.value
