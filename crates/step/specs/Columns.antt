@@ -7,8 +7,8 @@ use Rattle.step.specs.declared.edge.Face.{Face}
 abbrev pub column_of : Column → book.Column
 column_of k = record { bed = k.bed; depth = k.depth; normal = k.normal; along = k.along }
 
-abbrev pub edge_of : Edge → book.FaceSide
-edge_of e = record { depth = e.side.depth; normal = e.side.normal; along = e.along }
+abbrev pub edge_seen : Edge → book.FaceSide
+edge_seen e = record { depth = e.side.depth; normal = e.side.normal; along = e.along }
 
 abbrev pub face_seen : Face → book.Face
-face_seen f = record { left = edge_of f.left; right = edge_of f.right }
+face_seen f = record { left = edge_seen f.left; right = edge_seen f.right }

@@ -2,7 +2,7 @@
 ghost use Rattle.std.specs.Prelude.{◌≡◌, ◌≤◌, pos, ◌+ℤ◌, ◌-ℤ◌, ◌≤ℤ◌};
 ghost use Rattle.book.specs.Numbers.{where_wet};
 ghost use Rattle.book.specs.Faces.{above, meet, face_of};
-ghost use Rattle.step.specs.Columns.{column_of, edge_of, face_seen};
+ghost use Rattle.step.specs.Columns.{column_of, edge_seen, face_seen};
 
 use crate::column::Column;
 use crate::edge::{Edge, Face};
@@ -49,7 +49,7 @@ fn rise_over(bed: i32, column: Column) -> i64
 // The water of a column that stands above a bed no lower than its own.
 fn edge_above(bed: i32, column: Column) -> Edge
     requires { column.bed ≤ℤ bed }
-    ensures { edge_of result ≡ above bed (column_of column) }
+    ensures { edge_seen result ≡ above bed (column_of column) }
 {
     let depth = positive_part(rise_over(bed, column));
     edge_of(depth, column)

@@ -5,14 +5,14 @@ use Rattle.book.specs.Faces.{above}
 use Rattle.book.proofs.Numbers.{positive_le}
 use Rattle.step.specs.declared.column.Column.{Column}
 use Rattle.step.specs.declared.edge.Edge.{Edge}
-use Rattle.step.specs.Columns.{column_of, edge_of}
+use Rattle.step.specs.Columns.{column_of, edge_seen}
 use Rattle.step.proofs.edges.edge_above.Goals as goal
 
 small : (x : ℤ) → x ≤ℤ pos 2000000 → positive x < 2 ^ 32
 small x h = omega (arith, positive_le x 2000000 h)
 
 edge_is : (e : Edge) (d : ℕ) (k : Column) (b : ℤ) → e.side.depth ≡ d → e.side.normal ≡ where_wet d k.normal → e.along ≡ where_wet d k.along →
-    d ≡ positive ((pos k.depth +ℤ k.bed) -ℤ b) → edge_of e ≡ above b (column_of k)
+    d ≡ positive ((pos k.depth +ℤ k.bed) -ℤ b) → edge_seen e ≡ above b (column_of k)
 edge_is e d k b p q r s = cc
 
 pub positive_part-depth-requires : goal.positive_part-depth-requires

@@ -6,10 +6,10 @@ use Rattle.book.proofs.Numbers.{greater_swap}
 use Rattle.book.specs.Faces.{above, meet}
 use Rattle.step.specs.declared.column.Column.{Column}
 use Rattle.step.specs.declared.edge.Edge.{Edge}
-use Rattle.step.specs.Columns.{column_of, edge_of, face_seen}
+use Rattle.step.specs.Columns.{column_of, edge_seen, face_seen}
 use Rattle.step.proofs.edges.meeting.Goals as goal
 
-face_is : (b : ℤ) (d e : Edge) (l r : Column) → edge_of d ≡ above b (column_of l) → edge_of e ≡ above b (column_of r) → b ≡ greater l.bed r.bed →
+face_is : (b : ℤ) (d e : Edge) (l r : Column) → edge_seen d ≡ above b (column_of l) → edge_seen e ≡ above b (column_of r) → b ≡ greater l.bed r.bed →
     face_seen (record { left = d; right = e }) ≡ meet (column_of l) (column_of r)
 face_is b d e l r p q h = cc
 
