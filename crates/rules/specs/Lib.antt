@@ -1,8 +1,10 @@
 pub mod Root
 pub mod Side
+pub mod Face
 pub mod Flux
 pub mod Rusanov
 pub mod Hll
+pub mod Stream
 pub mod Friction
 pub mod Drag
 pub mod BareBed

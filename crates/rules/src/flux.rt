@@ -3,30 +3,40 @@ pub mod hll;
 pub mod rusanov;
 
 ghost use Rattle.std.specs.Prelude.{◌≡◌, ℕ, ℤ};
+ghost use Rattle.rules.specs.Face.{of_face};
 ghost use Rattle.rules.specs.Flux.{LawfulFlux};
 
-use crate::side::FaceSide;
+use crate::face::Face;
+
+// The water that passes from left to right, and the push along the normal of the face.
+#[derive(Clone, Copy, Debug, PartialEq, Eq)]
+pub struct Flux {
+    pub water: i64,
+    pub push: i64,
+}
 
 pub trait FluxRule {
-    // The rule's fixed number.
+    // The rule's fixed number, which a closing account tells: a number, since anyone may write a rule.
     const NUMBER: u8;
 
-    ghost number: { ℕ };
+    ghost NUMBER: { ℕ };
 
-    // The water that passes from left to right, and the push along the normal of the face: functions of
-    // the left depth and normal velocity and the right depth and normal velocity.
+    // Water and push as functions of the left depth and normal velocity and the right depth and normal velocity.
     ghost water: { Self → ℕ → ℤ → ℕ → ℤ → ℤ };
 
     ghost push: { Self → ℕ → ℤ → ℕ → ℤ → ℤ };
 
-    // Answers `NUMBER`.
-    fn fixed_number(&self) -> u8
-        ensures { result ≡ number };
-
     // Answers water and push together.
-    fn flux(&self, left: FaceSide, right: FaceSide) -> (i64, i64)
-        ensures water { result.0 ≡ water self.now left.depth left.normal right.depth right.normal }
-        ensures push { result.1 ≡ push self.now left.depth left.normal right.depth right.normal };
+    fn flux(&self, face: Face) -> Flux
+        ensures water { result.water ≡ of_face (water self.now) face }
+        ensures push { result.push ≡ of_face (push self.now) face };
+
+    // Answers `NUMBER`.
+    final fn fixed_number(&self) -> u8
+        ensures { result ≡ NUMBER }
+    {
+        Self::NUMBER
+    }
 
     ghost lawful: { (rule : Self) → LawfulFlux (water rule) (push rule) };
 }

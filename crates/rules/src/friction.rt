@@ -1,18 +1,21 @@
 // What the bed takes from a flow in a step.
 pub mod bare_bed;
 mod drag;
+pub mod stream;
 pub mod weed;
 
 ghost use Rattle.std.specs.Prelude.{◌≡◌, ℕ, ℤ};
-ghost use Rattle.rules.specs.Friction.{Slowing, LawfulFriction};
+ghost use Rattle.rules.specs.Friction.{LawfulFriction};
+ghost use Rattle.rules.specs.Stream.{of_stream};
+
+use crate::friction::stream::Stream;
 
 pub trait FrictionRule {
     // What is left of a flow: a function of the flow, the speed before the step, the depth after it and the rate.
     ghost slowed: { Self → ℤ → ℕ → ℕ → ℕ → ℤ };
 
-    fn slow(&self, flow: i64, speed: u32, depth: u32, rate: u32) -> i64
-        requires { Slowing flow speed depth rate }
-        ensures { result ≡ slowed self.now flow speed depth rate };
+    fn slow(&self, stream: Stream) -> i64
+        ensures { result ≡ of_stream (slowed self.now) stream };
 
     ghost lawful: { (rule : Self) → LawfulFriction (slowed rule) };
 }

@@ -1,7 +1,10 @@
 // Why a rule cannot be made.
 ghost use Rattle.std.specs.Prelude.{◌≡◌};
 
-#[derive(Clone, Copy)]
+use std::error::Error;
+use std::fmt;
+
+#[derive(Clone, Copy, Debug, PartialEq, Eq)]
 pub enum RuleRefusal {
     Coefficient,
     Strength,
@@ -15,3 +18,14 @@ impl RuleRefusal {
         8
     }
 }
+
+impl fmt::Display for RuleRefusal {
+    fn fmt<W: fmt::Write>(&self, f: &mut fmt::Formatter<W>) -> fmt::Result {
+        match self {
+            RuleRefusal::Coefficient => f.write_str("the coefficient is over 1000"),
+            RuleRefusal::Strength => f.write_str("the strength is over 1000000000"),
+        }
+    }
+}
+
+impl Error for RuleRefusal {}

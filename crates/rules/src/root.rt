@@ -3,6 +3,7 @@ ghost use Rattle.std.specs.Prelude.{◌≡◌, ◌≤◌};
 ghost use Rattle.rules.specs.Root.{LeastRoot, root_of};
 
 // The least whole number `s` with `10 s s >= 981 depth`.
+#[tactic(auto, using(crate::specs::Roots::root_only))]
 pub fn root(depth: u32) -> u32
     ensures least { LeastRoot depth result }
     ensures value { result ≡ root_of depth }
@@ -12,7 +13,7 @@ pub fn root(depth: u32) -> u32
     if 0 < near && 10 * ((near - 1) * (near - 1)) < target && target <= 10 * (near * near) {
         near as u32
     } else {
-        search(depth)
+        slow_root(depth)
     }
 }
 
@@ -32,24 +33,12 @@ fn estimate(target: u64) -> u64
     }
 }
 
-// The same root by halving.
-fn search(depth: u32) -> u32
-    ensures least { LeastRoot depth result }
-    ensures value { result ≡ root_of depth }
+// The same root, by the library's square root.
+fn slow_root(depth: u32) -> u32
+    ensures { LeastRoot depth result }
 {
-    let target = 981 * u64::from(depth);
-    // The root is one of `low`, `low + 1` and so on, `size` numbers.
-    let mut low: u64 = 0;
-    let mut size: u64 = 1 << 20;
-    while size > 1 {
-        let half = size / 2;
-        let last = low + half - 1;
-        if 10 * (last * last) < target {
-            low += half;
-            size -= half;
-        } else {
-            size = half;
-        }
+    match (981 * u64::from(depth)).div_ceil(10).checked_sub(1) {
+        Some(below) => below.isqrt() as u32 + 1,
+        None => 0,
     }
-    low as u32
 }

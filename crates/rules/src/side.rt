@@ -1,10 +1,12 @@
 // One side of a face between two cells.
 ghost use Rattle.std.specs.Prelude.{◌≡◌, ◌<◌, ◌≤◌, ℤ, pos, MatchResult, unsigned_abs};
 ghost use Rattle.rules.specs.Root.{root_of};
-ghost use Rattle.rules.specs.Side.{Amiss, pace_of, face_pace, discharge, momentum};
+ghost use Rattle.rules.specs.Side.{Amiss, pace_of, discharge, momentum};
 ghost use Rattle.rules.specs.Hll.{slow_wave, fast_wave};
 
 use crate::root::root;
+use std::error::Error;
+use std::fmt;
 
 // The deepest water that a side may have, in units of 0.01 mm.
 pub const MAX_DEPTH: u32 = 2_000_000;
@@ -13,15 +15,27 @@ pub const MAX_DEPTH: u32 = 2_000_000;
 pub const MAX_VELOCITY: u32 = 10_000;
 
 // Why a depth and a velocity make no side.
-#[derive(Clone, Copy)]
+#[derive(Clone, Copy, Debug, PartialEq, Eq)]
 pub enum SideFault {
     TooDeep,
     TooFast,
     DryMoving,
 }
 
+impl fmt::Display for SideFault {
+    fn fmt<W: fmt::Write>(&self, f: &mut fmt::Formatter<W>) -> fmt::Result {
+        match self {
+            SideFault::TooDeep => f.write_str("the depth is over 2000000"),
+            SideFault::TooFast => f.write_str("the velocity is over 10000 either way"),
+            SideFault::DryMoving => f.write_str("the velocity over a depth of 0 is not 0"),
+        }
+    }
+}
+
+impl Error for SideFault {}
+
 // The depth of the water above the higher of the two beds, its velocity across the face, and its wave speed.
-#[derive(Clone, Copy)]
+#[derive(Clone, Copy, Debug, PartialEq, Eq)]
 pub struct FaceSide {
     pub depth: u32,
     pub normal: i32,
@@ -53,13 +67,16 @@ impl FaceSide {
     }
 
     // The fastest that anything moves on this side.
+    #[tactic(auto, using(crate::specs::Sides::root_near), unfolding(crate::specs::Side::pace_of))]
     pub fn pace(self) -> u32
-        ensures { result ≡ pace_of self.depth self.normal }
+        ensures value { result ≡ pace_of self.depth self.normal }
+        ensures bound { result ≤ 24008 }
     {
         self.normal.unsigned_abs() + self.wave
     }
 
     // The slower wave of this side.
+    #[tactic(auto, unfolding(crate::specs::Hll::slow_wave))]
     pub fn slow_wave(self) -> i64
         ensures { result ≡ slow_wave self.depth self.normal }
     {
@@ -67,6 +84,7 @@ impl FaceSide {
     }
 
     // The faster wave of this side.
+    #[tactic(auto, unfolding(crate::specs::Hll::fast_wave))]
     pub fn fast_wave(self) -> i64
         ensures { result ≡ fast_wave self.depth self.normal }
     {
@@ -75,24 +93,19 @@ impl FaceSide {
 
     // The water that this side carries across the face.
     pub fn discharge(self) -> i64
-        ensures { result ≡ discharge self.depth self.normal }
+        ensures value { result ≡ discharge self.depth self.normal }
+        ensures bound { unsigned_abs result ≤ 20000000000 }
     {
         i64::from(self.depth) * i64::from(self.normal)
     }
 
     // Twenty times the momentum that it carries, with the weight of the water.
     pub fn momentum(self) -> i64
-        ensures { result ≡ momentum self.depth self.normal }
+        ensures value { result ≡ momentum self.depth self.normal }
+        ensures bound { unsigned_abs result ≤ 7924000000000000 }
     {
         let depth = i64::from(self.depth);
         let normal = i64::from(self.normal);
         20 * depth * (normal * normal) + 981 * (depth * depth)
     }
-}
-
-// The greater pace of the two sides of a face.
-pub fn face_pace(left: FaceSide, right: FaceSide) -> u32
-    ensures { result ≡ face_pace left.depth left.normal right.depth right.normal }
-{
-    left.pace().max(right.pace())
 }

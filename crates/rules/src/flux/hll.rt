@@ -1,19 +1,20 @@
 // The flux of Harten, Lax and van Leer: one state between the slowest wave from the face and the fastest.
 ghost use Rattle.std.specs.Prelude.{◌≡◌};
 ghost use Rattle.rules.specs.Side.{discharge, momentum};
-ghost use Rattle.rules.specs.Hll.{Apart, slowest, fastest, fan_water, fan_push, hll_water, hll_push};
+ghost use Rattle.rules.specs.Hll.{Apart, fan_water, fan_push, hll_water, hll_push};
 ghost use Rattle.rules.specs.Hlls.{hll_lawful};
 
-use crate::flux::FluxRule;
+use crate::face::Face;
+use crate::flux::{Flux, FluxRule};
 use crate::side::FaceSide;
 
-#[derive(Clone, Copy)]
+#[derive(Clone, Copy, Debug, PartialEq, Eq)]
 pub struct Hll;
 
 impl FluxRule for Hll {
     const NUMBER: u8 = 2;
 
-    ghost number = { 2 };
+    ghost NUMBER = { 2 };
 
     ghost water = { λ _. hll_water };
 
@@ -21,43 +22,37 @@ impl FluxRule for Hll {
 
     ghost lawful = { λ rule. hll_lawful };
 
-    fn fixed_number(&self) -> u8 {
-        Self::NUMBER
-    }
-
-    fn flux(&self, left: FaceSide, right: FaceSide) -> (i64, i64) {
-        let low = slowest_wave(left, right);
-        let high = fastest_wave(left, right);
+    fn flux(&self, face: Face) -> Flux {
+        let low = face.slowest_wave();
+        let high = face.fastest_wave();
         if low >= 0 {
-            (left.discharge(), left.momentum())
+            carried(face.left)
         } else if high <= 0 {
-            (right.discharge(), right.momentum())
+            carried(face.right)
         } else {
-            fan(low, high, left, right)
+            fan(low, high, face)
         }
     }
 }
 
-// The slowest wave from the face.
-fn slowest_wave(left: FaceSide, right: FaceSide) -> i64
-    ensures { result ≡ slowest left.depth left.normal right.depth right.normal }
+// What one side carries across the face.
+fn carried(side: FaceSide) -> Flux
+    ensures water { result.water ≡ discharge side.depth side.normal }
+    ensures push { result.push ≡ momentum side.depth side.normal }
 {
-    left.slow_wave().min(right.slow_wave())
-}
-
-// The fastest wave from the face.
-fn fastest_wave(left: FaceSide, right: FaceSide) -> i64
-    ensures { result ≡ fastest left.depth left.normal right.depth right.normal }
-{
-    left.fast_wave().max(right.fast_wave())
+    Flux {
+        water: side.discharge(),
+        push: side.momentum(),
+    }
 }
 
 // What passes a face that lies between the two waves.
-fn fan(low: i64, high: i64, left: FaceSide, right: FaceSide) -> (i64, i64)
+fn fan(low: i64, high: i64, face: Face) -> Flux
     requires { Apart 24008 low high }
-    ensures water { result.0 ≡ fan_water low high (discharge left.depth left.normal) (discharge right.depth right.normal) left.depth right.depth }
-    ensures push { result.1 ≡ fan_push low high (discharge left.depth left.normal) (discharge right.depth right.normal) (momentum left.depth left.normal) (momentum right.depth right.normal) }
+    ensures water { result.water ≡ fan_water low high (discharge face.left.depth face.left.normal) (discharge face.right.depth face.right.normal) face.left.depth face.right.depth }
+    ensures push { result.push ≡ fan_push low high (discharge face.left.depth face.left.normal) (discharge face.right.depth face.right.normal) (momentum face.left.depth face.left.normal) (momentum face.right.depth face.right.normal) }
 {
+    let Face { left, right } = face;
     let (depth_left, depth_right) = (i64::from(left.depth), i64::from(right.depth));
     let (water_left, water_right) = (left.discharge(), right.discharge());
     let (push_left, push_right) = (left.momentum(), right.momentum());
@@ -68,5 +63,5 @@ fn fan(low: i64, high: i64, left: FaceSide, right: FaceSide) -> (i64, i64)
     let lean = (low + high) * ((push_left - push_right) / width);
     let jump = 20 * product / width * (water_right - water_left);
     let push = (push_left + push_right + lean) / 2 + jump;
-    (water, push)
+    Flux { water, push }
 }

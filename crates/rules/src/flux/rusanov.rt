@@ -2,16 +2,16 @@
 ghost use Rattle.rules.specs.Rusanov.{rusanov_water, rusanov_push};
 ghost use Rattle.rules.specs.Rusanovs.{rusanov_lawful};
 
-use crate::flux::FluxRule;
-use crate::side::{FaceSide, face_pace};
+use crate::face::Face;
+use crate::flux::{Flux, FluxRule};
 
-#[derive(Clone, Copy)]
+#[derive(Clone, Copy, Debug, PartialEq, Eq)]
 pub struct Rusanov;
 
 impl FluxRule for Rusanov {
     const NUMBER: u8 = 1;
 
-    ghost number = { 1 };
+    ghost NUMBER = { 1 };
 
     ghost water = { λ _. rusanov_water };
 
@@ -19,17 +19,14 @@ impl FluxRule for Rusanov {
 
     ghost lawful = { λ rule. rusanov_lawful };
 
-    fn fixed_number(&self) -> u8 {
-        Self::NUMBER
-    }
-
-    fn flux(&self, left: FaceSide, right: FaceSide) -> (i64, i64) {
-        let pace = i64::from(face_pace(left, right));
+    fn flux(&self, face: Face) -> Flux {
+        let Face { left, right } = face;
+        let pace = i64::from(face.pace());
         let (depth_left, depth_right) = (i64::from(left.depth), i64::from(right.depth));
         let (water_left, water_right) = (left.discharge(), right.discharge());
         let (push_left, push_right) = (left.momentum(), right.momentum());
         let water = (water_left + water_right - pace * (depth_right - depth_left)) / 2;
         let push = (push_left + push_right - 20 * pace * (water_right - water_left)) / 2;
-        (water, push)
+        Flux { water, push }
     }
 }

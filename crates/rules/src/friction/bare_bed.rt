@@ -1,17 +1,17 @@
 // Friction of a bare bed, by the law of Darcy and Weisbach.
 ghost use Rattle.std.specs.Prelude.{◌≡◌, ◌<◌, ◌≤◌, MatchResult};
-ghost use Rattle.rules.specs.declared.refusal.RuleRefusal.TheVariants.{Coefficient};
 ghost use Rattle.rules.specs.BareBed.{bare_slowed};
 ghost use Rattle.rules.specs.Frictions.{bare_lawful};
 
 use crate::friction::FrictionRule;
 use crate::friction::drag::reduced;
+use crate::friction::stream::Stream;
 use crate::refusal::RuleRefusal;
 
 // The greatest coefficient, in thousandths.
 pub const MAX_COEFFICIENT: u32 = 1000;
 
-#[derive(Clone, Copy)]
+#[derive(Clone, Copy, Debug, PartialEq, Eq)]
 pub struct BareBed {
     coefficient: u32,
     ghost small: { coefficient ≤ 1000 },
@@ -19,7 +19,7 @@ pub struct BareBed {
 
 impl BareBed {
     pub fn new(coefficient: u32) -> Result<BareBed, RuleRefusal>
-        ensures { MatchResult result (λ bed. bed.coefficient ≡ coefficient) (λ why. (1000 < coefficient) × (why ≡ Coefficient)) }
+        ensures { MatchResult result (λ bed. bed.coefficient ≡ coefficient) (λ why. (1000 < coefficient) × (why ≡ RuleRefusal.Coefficient)) }
     {
         if coefficient > MAX_COEFFICIENT {
             return Err(RuleRefusal::Coefficient);
@@ -33,9 +33,10 @@ impl FrictionRule for BareBed {
 
     ghost lawful = { λ bed. bare_lawful bed.coefficient };
 
-    fn slow(&self, flow: i64, speed: u32, depth: u32, rate: u32) -> i64 {
-        let hold = 80 * (u64::from(rate) * u64::from(depth));
-        let drag = u64::from(self.coefficient) * u64::from(speed);
-        reduced(flow, hold, drag)
+    #[tactic(auto, unfolding(crate::specs::BareBed::bare_slowed))]
+    fn slow(&self, stream: Stream) -> i64 {
+        let hold = 80 * (u64::from(stream.rate) * u64::from(stream.depth));
+        let drag = u64::from(self.coefficient) * u64::from(stream.speed);
+        reduced(stream.flow, hold, drag)
     }
 }

@@ -15,6 +15,7 @@ pub(crate) fn with_size(flow: i64, size: u64) -> i64
 }
 
 // The flow less `flow * drag / (hold + drag)`, that quotient rounded away from zero.
+#[tactic(auto, using(crate::specs::Frictions::dragged_is), unfolding(crate::specs::Drag::quot_up))]
 pub(crate) fn reduced(flow: i64, hold: u64, drag: u64) -> i64
     requires some_hold { 0 < hold }
     requires sum { hold + drag < 2 ^ 64 }

@@ -13,22 +13,22 @@ abbrev high : After-momentum-push_right → Wide
 high c = store (given c.args.high c.args.high 24008 refl c.requires.high) (lit< tt)
 
 abbrev depth_left : After-momentum-push_right → Wide
-depth_left c = wide_depth c.args.left _ c.from-depth_left.ensures
+depth_left c = wide_depth c.args.face.left _ c.from-depth_left.ensures
 
 abbrev water_left : After-momentum-push_right → Wide
-water_left c = wide_discharge c.args.left _ c.discharge-water_left.ensures
+water_left c = wide_discharge c.args.face.left _ c.discharge-water_left.ensures.value
 
 abbrev push_left : After-momentum-push_right → Wide
-push_left c = wide_momentum c.args.left _ c.momentum-push_left.ensures
+push_left c = wide_momentum c.args.face.left _ c.momentum-push_left.ensures.value
 
 abbrev depth_right : After-momentum-push_right → Wide
-depth_right c = wide_depth c.args.right _ c.from-depth_right.ensures
+depth_right c = wide_depth c.args.face.right _ c.from-depth_right.ensures
 
 abbrev water_right : After-momentum-push_right → Wide
-water_right c = wide_discharge c.args.right _ c.discharge-water_right.ensures
+water_right c = wide_discharge c.args.face.right _ c.discharge-water_right.ensures.value
 
 abbrev push_right : After-momentum-push_right → Wide
-push_right c = wide_momentum c.args.right _ c.momentum-push_right.ensures
+push_right c = wide_momentum c.args.face.right _ c.momentum-push_right.ensures.value
 
 abbrev wide : After-momentum-push_right → Wide
 wide c = less (high c) (low c)
@@ -96,9 +96,6 @@ overflow_add-water c = fits (above c) (lit< tt)
 pub nonzero_div-water : goal.nonzero_div-water
 nonzero_div-water c = (divisor (wide c) (width_pos c.args.low c.args.high c.requires.left c.requires.right), fits (water c) (lit< tt))
 
-pub overflow_sub-lean : goal.overflow_sub-lean
-overflow_sub-lean c = fits (less (push_left c) (push_right c)) (lit< tt)
-
 pub nonzero_div-lean : goal.nonzero_div-lean
 nonzero_div-lean c = (divisor (wide c) (width_pos c.args.low c.args.high c.requires.left c.requires.right), fits (slope c) (lit< tt))
 
@@ -108,14 +105,8 @@ overflow_mul-lean c = fits (lean c) (lit< tt)
 pub nonzero_div-jump : goal.nonzero_div-jump
 nonzero_div-jump c = (divisor (wide c) (width_pos c.args.low c.args.high c.requires.left c.requires.right), fits (share c) (lit< tt))
 
-pub overflow_sub-jump : goal.overflow_sub-jump
-overflow_sub-jump c = fits (less (water_right c) (water_left c)) (lit< tt)
-
 pub overflow_mul-jump-2 : goal.overflow_mul-jump-2
 overflow_mul-jump-2 c = fits (jump c) (lit< tt)
-
-pub overflow_add-push : goal.overflow_add-push
-overflow_add-push c = fits (both c) (lit< tt)
 
 pub overflow_add-push-2 : goal.overflow_add-push-2
 overflow_add-push-2 c = fits (all c) (lit< tt)

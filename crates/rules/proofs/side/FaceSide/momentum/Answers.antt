@@ -1,7 +1,7 @@
 use Rattle.std.proofs.Common.{lit<}
 use Rattle.rules.specs.Side.{momentum}
 use Rattle.rules.specs.Wide.{Wide, number, store, times, plus, fits}
-use Rattle.rules.specs.Sides.{wide_depth, wide_normal}
+use Rattle.rules.specs.Sides.{facing, momentum_near, wide_depth, wide_normal}
 use Rattle.rules.proofs.side.FaceSide.momentum.Goals as goal
 
 abbrev depth : goal.After-from-normal → Wide
@@ -22,15 +22,11 @@ whole c = plus (store (flow c) (lit< tt)) (store (weight c) (lit< tt))
 pub overflow_mul-result-3 : goal.overflow_mul-result-3
 overflow_mul-result-3 c = fits (flow c) (lit< tt)
 
-pub overflow_mul-result-4 : goal.overflow_mul-result-4
-overflow_mul-result-4 c = fits (times (depth c) (depth c)) (lit< tt)
-
-pub overflow_mul-result-5 : goal.overflow_mul-result-5
-overflow_mul-result-5 c = fits (weight c) (lit< tt)
-
 pub overflow_add-result : goal.overflow_add-result
 overflow_add-result c = fits (whole c) (lit< tt)
 
 pub returns : goal.returns
 unfolding momentum
-returns c = (store (whole c) (lit< tt)).is
+returns c =
+    let e = (store (whole c) (lit< tt)).is in
+    record { value = e; bound = rw e (momentum_near c.args.self.depth c.args.self.normal (facing c.args.self)) }

@@ -9,27 +9,24 @@ pub fan-requires : goal.fan-requires
 fan-requires c =
     let low = held _ _ c.slowest_wave-low.type_inv c.slowest_wave-low.ensures in
     let high = held _ _ c.fastest_wave-high.type_inv c.fastest_wave-high.ensures in
-    simp (low, high) (wide_apart c.args.left.depth c.args.left.normal c.args.right.depth c.args.right.normal (facing c.args.left) (facing c.args.right) (omega (arith, ints)) (omega (arith, ints)))
+    simp (low, high) (wide_apart c.args.face.left.depth c.args.face.left.normal c.args.face.right.depth c.args.face.right.normal (facing c.args.face.left) (facing c.args.face.right) (omega (arith, ints)) (omega (arith, ints)))
 
 pub returns-then-low-ge0 : goal.returns-then-low-ge0
 returns-then-low-ge0 c =
     let low = held _ _ c.slowest_wave-low.type_inv c.slowest_wave-low.ensures in
-    let goes = goes_right c.args.left.depth c.args.left.normal c.args.right.depth c.args.right.normal (omega (arith, ints)) in
-    record { water = held _ _ c.discharge.type_inv c.discharge.ensures ∙ sym goes.0; push = held _ _ c.momentum.type_inv c.momentum.ensures ∙ sym goes.1 }
+    let goes = goes_right c.args.face.left.depth c.args.face.left.normal c.args.face.right.depth c.args.face.right.normal (omega (arith, ints)) in
+    record { water = c.carried.ensures.water ∙ sym goes.0; push = c.carried.ensures.push ∙ sym goes.1 }
 
 pub returns-then-high-le0 : goal.returns-then-high-le0
 returns-then-high-le0 c =
     let low = held _ _ c.slowest_wave-low.type_inv c.slowest_wave-low.ensures in
     let high = held _ _ c.fastest_wave-high.type_inv c.fastest_wave-high.ensures in
-    let goes = goes_left c.args.left.depth c.args.left.normal c.args.right.depth c.args.right.normal (omega (arith, ints)) (omega (arith, ints)) in
-    record {
-      water = held _ _ c.discharge-then-high-le0.type_inv c.discharge-then-high-le0.ensures ∙ sym goes.0;
-      push = held _ _ c.momentum-then-high-le0.type_inv c.momentum-then-high-le0.ensures ∙ sym goes.1;
-    }
+    let goes = goes_left c.args.face.left.depth c.args.face.left.normal c.args.face.right.depth c.args.face.right.normal (omega (arith, ints)) (omega (arith, ints)) in
+    record { water = c.carried-then-high-le0.ensures.water ∙ sym goes.0; push = c.carried-then-high-le0.ensures.push ∙ sym goes.1 }
 
 pub returns-else-high-le0 : goal.returns-else-high-le0
 returns-else-high-le0 c =
     let low = held _ _ c.slowest_wave-low.type_inv c.slowest_wave-low.ensures in
     let high = held _ _ c.fastest_wave-high.type_inv c.fastest_wave-high.ensures in
-    let goes = goes_apart c.args.left.depth c.args.left.normal c.args.right.depth c.args.right.normal _ _ low high (omega (arith, ints)) (omega (arith, ints)) in
+    let goes = goes_apart c.args.face.left.depth c.args.face.left.normal c.args.face.right.depth c.args.face.right.normal _ _ low high (omega (arith, ints)) (omega (arith, ints)) in
     record { water = c.fan.ensures.water ∙ goes.0; push = c.fan.ensures.push ∙ goes.1 }
