@@ -1,6 +1,6 @@
 // What can be asked of a sheet, with its arguments as they come, in range or not.
 
-#[derive(Clone, Copy, PartialEq, Eq)]
+#[derive(Clone, Copy, Debug, PartialEq, Eq)]
 pub enum Call {
     // A new sheet of cells of this width, in mm.
     Prepare {
@@ -29,7 +29,8 @@ pub enum Call {
     Soak {
         amount: u16,
     },
-    // A side by its number, its kind by number, and the two values of that kind.
+    // A side by its number, its kind by number, and the two values of that kind: numbers, and no `Hand` and `Side`, since
+    // wrong ones can be sent too, and are refused.
     ChangeSide {
         side: u8,
         kind: u8,

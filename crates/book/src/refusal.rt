@@ -1,8 +1,10 @@
-// Why a call or a record is refused; specs/Refusals.antt has the number of each case.
+// Why a call or a record is refused, each case with its number.
+ghost use Rattle.std.specs.Prelude.{◌≡◌};
+ghost use Rattle.book.specs.Refusals.{refusal_number};
 
-#[derive(Clone, Copy, PartialEq, Eq)]
+#[derive(Clone, Copy, Debug, PartialEq, Eq)]
 pub enum Refusal {
-    Size,
+    Size = 1,
     Place,
     Bed,
     Depth,
@@ -18,4 +20,12 @@ pub enum Refusal {
     Brim,
     FullAccount,
     NoRate,
+}
+
+impl Refusal {
+    pub fn number(self) -> u8
+        ensures { result ≡ refusal_number self }
+    {
+        self as u8
+    }
 }

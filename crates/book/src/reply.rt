@@ -3,7 +3,7 @@ use crate::account::Account;
 use crate::cell::Cell;
 use crate::refusal::Refusal;
 
-#[derive(Clone, Copy, PartialEq, Eq)]
+#[derive(Clone, Copy, Debug, PartialEq, Eq)]
 pub enum Reply {
     Done,
     Refused { why: Refusal },
@@ -13,6 +13,6 @@ pub enum Reply {
     // The sum of all depths.
     StandingIs { amount: u64 },
     RateIs { rate: u16 },
-    // With the number of the flux.
+    // With the number of the flux: no enum lists the rules that others write.
     ClosedWith { account: Account, flux: u8 },
 }

@@ -1,15 +1,13 @@
 -- The range of each number of a question.
 use Rattle.std.specs.Prelude.{Bool, true, false, ◌&&◌, ℤ, pos, neg_ℤ, int_le}
 use Rattle.face.specs.declared.quantity.Quantity.{Quantity}
-use Rattle.face.specs.declared.quantity.Quantity.TheVariants.{Depth, FluxNumber, LeftDepth, LeftVelocity, RightDepth, RightVelocity, Coefficient, Strength, Flow, Speed, NewDepth, Rate}
+use Rattle.face.specs.declared.quantity.Quantity.TheVariants.{Depth, FluxNumber, SideDepth, SideVelocity, Coefficient, Strength, Flow, Speed, NewDepth, Rate}
 
 abbrev pub least_of : Quantity → ℤ
 least_of Depth = pos 0
 least_of FluxNumber = pos 1
-least_of LeftDepth = pos 0
-least_of LeftVelocity = neg_ℤ (pos 10000)
-least_of RightDepth = pos 0
-least_of RightVelocity = neg_ℤ (pos 10000)
+least_of (SideDepth bank) = pos 0
+least_of (SideVelocity bank) = neg_ℤ (pos 10000)
 least_of Coefficient = pos 0
 least_of Strength = pos 0
 least_of Flow = neg_ℤ (pos 30000000000)
@@ -20,10 +18,8 @@ least_of Rate = pos 1
 abbrev pub greatest_of : Quantity → ℤ
 greatest_of Depth = pos 4294967295
 greatest_of FluxNumber = pos 2
-greatest_of LeftDepth = pos 2000000
-greatest_of LeftVelocity = pos 10000
-greatest_of RightDepth = pos 2000000
-greatest_of RightVelocity = pos 10000
+greatest_of (SideDepth bank) = pos 2000000
+greatest_of (SideVelocity bank) = pos 10000
 greatest_of Coefficient = pos 1000
 greatest_of Strength = pos 1000000000
 greatest_of Flow = pos 30000000000
@@ -38,10 +34,8 @@ within quantity value = int_le (least_of quantity) value && int_le value (greate
 abbrev pub of_rule : Quantity → Bool
 of_rule Depth = false
 of_rule FluxNumber = true
-of_rule LeftDepth = false
-of_rule LeftVelocity = false
-of_rule RightDepth = false
-of_rule RightVelocity = false
+of_rule (SideDepth bank) = false
+of_rule (SideVelocity bank) = false
 of_rule Coefficient = true
 of_rule Strength = true
 of_rule Flow = false

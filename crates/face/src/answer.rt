@@ -1,57 +1,104 @@
 // The answers, by the rules.
 ghost use Rattle.std.specs.Prelude.{◌≡◌};
-ghost use Rattle.face.specs.Replies.{answer_to};
+ghost use Rattle.rules.specs.Face.{of_face};
+ghost use Rattle.rules.specs.Stream.{of_stream};
+ghost use Rattle.face.specs.Replies.{answer_to, passed_by};
 
-use crate::question::{FluxName, Question, Stream};
-use rules::flux::FluxRule;
+use crate::checking::check;
+use crate::quantity::OutOfRange;
+use crate::question::{FluxName, Question};
+use crate::reading::{Unreadable, read};
+use rules::face::Face;
 use rules::flux::hll::Hll;
 use rules::flux::rusanov::Rusanov;
+use rules::flux::{Flux, FluxRule};
 use rules::friction::FrictionRule;
+use rules::friction::stream::Stream;
 use rules::root::root;
-use rules::side::FaceSide;
+use std::error::Error;
 use std::fmt;
 
-#[derive(Clone, Copy)]
+#[derive(Clone, Copy, Debug, PartialEq, Eq)]
 pub enum Answer {
     Wave { speed: u32 },
-    Passed { water: i64, push: i64 },
+    Passed { flux: Flux },
     Left { flow: i64 },
 }
 
-pub(crate) fn reply(question: Question) -> Answer
+// Why a line has no answer.
+#[derive(Clone, Copy, Debug, PartialEq, Eq)]
+pub enum Unanswered<'a> {
+    Unreadable { why: Unreadable<'a> },
+    OutOfRange { why: OutOfRange },
+}
+
+// The answer to a line that has at least one word.
+pub(crate) fn answer_line(line: &str) -> Result<Answer, Unanswered<'_>> {
+    Ok(reply(check(read(line)?)?))
+}
+
+fn reply(question: Question) -> Answer
     ensures { result ≡ answer_to question }
 {
     match question {
         Question::Root { depth } => Answer::Wave { speed: root(depth) },
-        Question::Flux { name, left, right } => match name {
-            FluxName::Rusanov => passed(&Rusanov, left, right),
-            FluxName::Hll => passed(&Hll, left, right),
+        Question::Flux { name, face } => match name {
+            FluxName::Rusanov => passed(&Rusanov, face),
+            FluxName::Hll => passed(&Hll, face),
         },
         Question::Bare { bed, stream } => slowed(&bed, stream),
         Question::Weed { weed, stream } => slowed(&weed, stream),
     }
 }
 
-fn passed<F: FluxRule>(rule: &F, left: FaceSide, right: FaceSide) -> Answer
-    ensures { result ≡ Answer.Passed (F.FluxRule.water rule.now left.depth left.normal right.depth right.normal) (F.FluxRule.push rule.now left.depth left.normal right.depth right.normal) }
+fn passed<F: FluxRule>(rule: &F, face: Face) -> Answer
+    ensures { result ≡ passed_by (F.FluxRule.water rule.now) (F.FluxRule.push rule.now) face }
 {
-    let (water, push) = rule.flux(left, right);
-    Answer::Passed { water, push }
+    Answer::Passed {
+        flux: rule.flux(face),
+    }
 }
 
 fn slowed<R: FrictionRule>(rule: &R, stream: Stream) -> Answer
-    ensures { result ≡ Answer.Left (R.FrictionRule.slowed rule.now stream.flow stream.speed stream.depth stream.rate) }
+    ensures { result ≡ Answer.Left (of_stream (R.FrictionRule.slowed rule.now) stream) }
 {
-    let flow = rule.slow(stream.flow, stream.speed, stream.depth, stream.rate);
-    Answer::Left { flow }
+    Answer::Left {
+        flow: rule.slow(stream),
+    }
 }
 
 impl fmt::Display for Answer {
     fn fmt<W: fmt::Write>(&self, f: &mut fmt::Formatter<W>) -> fmt::Result {
         match self {
             Answer::Wave { speed } => write!(f, "root {speed}"),
-            Answer::Passed { water, push } => write!(f, "water {water} push {push}"),
+            Answer::Passed { flux } => {
+                let Flux { water, push } = flux;
+                write!(f, "water {water} push {push}")
+            }
             Answer::Left { flow } => write!(f, "flow {flow}"),
         }
     }
 }
+
+impl<'a> From<Unreadable<'a>> for Unanswered<'a> {
+    fn from(why: Unreadable<'a>) -> Unanswered<'a> {
+        Unanswered::Unreadable { why }
+    }
+}
+
+impl From<OutOfRange> for Unanswered<'_> {
+    fn from(why: OutOfRange) -> Self {
+        Unanswered::OutOfRange { why }
+    }
+}
+
+impl fmt::Display for Unanswered<'_> {
+    fn fmt<W: fmt::Write>(&self, f: &mut fmt::Formatter<W>) -> fmt::Result {
+        match self {
+            Unanswered::Unreadable { why } => write!(f, "{why}"),
+            Unanswered::OutOfRange { why } => write!(f, "{why}"),
+        }
+    }
+}
+
+impl Error for Unanswered<'_> {}

@@ -1,155 +1,99 @@
 // From the numbers that are read to a question whose numbers are in range.
-ghost use Rattle.std.specs.Prelude.{◌≡◌, ◌<◌, ◌≤◌, true, false, pos, Some, None, MatchResult, unsigned_abs};
-ghost use Rattle.face.specs.declared.quantity.Quantity.TheVariants.{FluxNumber, LeftDepth, LeftVelocity, RightDepth, RightVelocity, Coefficient, Strength, Speed, NewDepth, Rate};
-ghost use Rattle.face.specs.Quantities.{within};
-ghost use Rattle.face.specs.Checks.{plain, plain_flux, beyond, side_fault, stream_fault, fault_of};
+ghost use Rattle.std.specs.Prelude.{◌≡◌, pos};
+ghost use Rattle.face.specs.Checks.{FirstFault, plain, plain_flux, plain_side, plain_stream, flux_fault, side_fault, stream_fault, bed_fault, weed_fault, fault_of};
 
-use crate::quantity::{OutOfRange, Quantity};
-use crate::question::{Asked, FluxName, Question, Stream};
+use crate::quantity::{Bank, OutOfRange, Quantity};
+use crate::question::{Asked, AskedSide, AskedStream, FluxName, Question};
+use rules::face::Face;
 use rules::friction::bare_bed::BareBed;
+use rules::friction::stream::Stream;
 use rules::friction::weed::Weed;
-use rules::side::{FaceSide, SideFault};
+use rules::side::FaceSide;
 
 // The question that was asked, or the first of its numbers that is out of range.
 pub(crate) fn check(asked: Asked) -> Result<Question, OutOfRange>
-    ensures { MatchResult result (λ question. (plain question ≡ asked) × (fault_of asked ≡ None)) (λ out. fault_of asked ≡ Some out) }
+    ensures { FirstFault (fault_of asked) (λ question. plain question ≡ asked) result }
 {
     match asked {
-        Asked::Root { depth } => {
-            let depth = Quantity::Depth.checked(depth)? as u32;
-            Ok(Question::Root { depth })
-        }
+        Asked::Root { depth } => Ok(Question::Root {
+            depth: Quantity::Depth.natural(depth)?,
+        }),
         Asked::Flux {
             number,
-            left_depth,
-            left_velocity,
-            right_depth,
-            right_velocity,
+            left,
+            right,
         } => {
-            let name = name(number)?;
-            let left = left(left_depth, left_velocity)?;
-            let right = right(right_depth, right_velocity)?;
-            Ok(Question::Flux { name, left, right })
+            let name = FluxName::try_from(number)?;
+            let left_side = side(Bank::Left, left)?;
+            let right_side = side(Bank::Right, right)?;
+            let face = Face {
+                left: left_side,
+                right: right_side,
+            };
+            Ok(Question::Flux { name, face })
         }
         Asked::Bare {
             coefficient,
-            flow,
-            speed,
-            depth,
-            rate,
-        } => {
-            let bed = bed(coefficient)?;
-            let stream = stream(flow, speed, depth, rate)?;
-            Ok(Question::Bare { bed, stream })
-        }
+            stream,
+        } => Ok(Question::Bare {
+            bed: bed(coefficient)?,
+            stream: checked_stream(stream)?,
+        }),
         Asked::Weed {
             strength,
             coefficient,
-            flow,
-            speed,
-            depth,
-            rate,
-        } => {
-            let weed = weed(strength, coefficient)?;
-            let stream = stream(flow, speed, depth, rate)?;
-            Ok(Question::Weed { weed, stream })
+            stream,
+        } => Ok(Question::Weed {
+            weed: weed(strength, coefficient)?,
+            stream: checked_stream(stream)?,
+        }),
+    }
+}
+
+impl TryFrom<i64> for FluxName {
+    type Error = OutOfRange;
+
+    ghost try_from_gives = { λ number result. FirstFault (flux_fault number) (λ name. plain_flux name ≡ number) result };
+
+    fn try_from(number: i64) -> Result<FluxName, OutOfRange> {
+        match Quantity::FluxNumber.checked(number)? {
+            1 => Ok(FluxName::Rusanov),
+            _ => Ok(FluxName::Hll),
         }
     }
 }
 
-fn name(number: i64) -> Result<FluxName, OutOfRange>
-    ensures { MatchResult result (λ name. (plain_flux name ≡ number) × (beyond FluxNumber number None ≡ None)) (λ out. beyond FluxNumber number None ≡ Some out) }
+#[tactic(auto, unfolding(crate::specs::Checks::side_fault))]
+fn side(bank: Bank, asked: AskedSide) -> Result<FaceSide, OutOfRange>
+    ensures { FirstFault (side_fault bank asked) (λ side. plain_side side ≡ asked) result }
 {
-    match Quantity::FluxNumber.checked(number)? {
-        1 => Ok(FluxName::Rusanov),
-        _ => Ok(FluxName::Hll),
-    }
+    let depth = Quantity::SideDepth { bank }.natural(asked.depth)?;
+    let velocity = Quantity::SideVelocity { bank };
+    let value = velocity.checked(asked.velocity)?;
+    FaceSide::new(depth, value as i32).map_err(|_| OutOfRange::DryMoving { velocity, value })
 }
 
-fn left(depth: i64, velocity: i64) -> Result<FaceSide, OutOfRange>
-    ensures { MatchResult result (λ side. (pos side.depth ≡ depth) × (side.normal ≡ velocity) × (side_fault LeftDepth LeftVelocity depth velocity ≡ None)) (λ out. side_fault LeftDepth LeftVelocity depth velocity ≡ Some out) }
+#[tactic(auto, unfolding(crate::specs::Checks::stream_fault))]
+fn checked_stream(asked: AskedStream) -> Result<Stream, OutOfRange>
+    ensures { FirstFault (stream_fault asked) (λ stream. plain_stream stream ≡ asked) result }
 {
-    let depth = Quantity::LeftDepth.checked(depth)? as u32;
-    let normal = Quantity::LeftVelocity.checked(velocity)? as i32;
-    side(depth, normal, Quantity::LeftVelocity)
-}
-
-fn right(depth: i64, velocity: i64) -> Result<FaceSide, OutOfRange>
-    ensures { MatchResult result (λ side. (pos side.depth ≡ depth) × (side.normal ≡ velocity) × (side_fault RightDepth RightVelocity depth velocity ≡ None)) (λ out. side_fault RightDepth RightVelocity depth velocity ≡ Some out) }
-{
-    let depth = Quantity::RightDepth.checked(depth)? as u32;
-    let normal = Quantity::RightVelocity.checked(velocity)? as i32;
-    side(depth, normal, Quantity::RightVelocity)
-}
-
-// Of a depth and a velocity in range, the velocity under the given name.
-fn side(depth: u32, normal: i32, velocity: Quantity) -> Result<FaceSide, OutOfRange>
-    requires shallow { depth ≤ 2000000 }
-    requires slow { unsigned_abs normal ≤ 10000 }
-    ensures { MatchResult result (λ side. (side.depth ≡ depth) × (side.normal ≡ normal)) (λ out. (out ≡ OutOfRange.DryMoving velocity normal) × (depth ≡ 0) × (0 < unsigned_abs normal)) }
-{
-    match FaceSide::new(depth, normal) {
-        Ok(side) => Ok(side),
-        Err(fault) => match fault {
-            SideFault::DryMoving => Err(OutOfRange::DryMoving {
-                velocity,
-                value: i64::from(normal),
-            }),
-            _ => unreachable(),
-        },
-    }
-}
-
-fn stream(flow: i64, speed: i64, depth: i64, rate: i64) -> Result<Stream, OutOfRange>
-    ensures { MatchResult result (λ stream. (stream.flow ≡ flow) × (pos stream.speed ≡ speed) × (pos stream.depth ≡ depth) × (pos stream.rate ≡ rate) × (stream_fault flow speed depth rate ≡ None)) (λ out. stream_fault flow speed depth rate ≡ Some out) }
-{
-    let flow = Quantity::Flow.checked(flow)?;
-    let speed = speed_of(speed)?;
-    let depth = depth_of(depth)?;
-    let rate = rate_of(rate)?;
     Ok(Stream {
-        flow,
-        speed,
-        depth,
-        rate,
+        flow: Quantity::Flow.checked(asked.flow)?,
+        speed: Quantity::Speed.natural(asked.speed)?,
+        depth: Quantity::NewDepth.natural(asked.depth)?,
+        rate: Quantity::Rate.natural(asked.rate)?,
     })
 }
 
-fn speed_of(value: i64) -> Result<u32, OutOfRange>
-    ensures { MatchResult result (λ n. (pos n ≡ value) × (within Speed value ≡ true) × (n ≤ 10000)) (λ out. (out ≡ OutOfRange.Beyond Speed value) × (within Speed value ≡ false)) }
-{
-    Ok(Quantity::Speed.checked(value)? as u32)
-}
-
-fn depth_of(value: i64) -> Result<u32, OutOfRange>
-    ensures { MatchResult result (λ n. (pos n ≡ value) × (within NewDepth value ≡ true) × (1 ≤ n) × (n ≤ 2000000)) (λ out. (out ≡ OutOfRange.Beyond NewDepth value) × (within NewDepth value ≡ false)) }
-{
-    Ok(Quantity::NewDepth.checked(value)? as u32)
-}
-
-fn rate_of(value: i64) -> Result<u32, OutOfRange>
-    ensures { MatchResult result (λ n. (pos n ≡ value) × (within Rate value ≡ true) × (1 ≤ n) × (n ≤ 1000)) (λ out. (out ≡ OutOfRange.Beyond Rate value) × (within Rate value ≡ false)) }
-{
-    Ok(Quantity::Rate.checked(value)? as u32)
-}
-
 fn bed(coefficient: i64) -> Result<BareBed, OutOfRange>
-    ensures { MatchResult result (λ bed. (pos bed.coefficient ≡ coefficient) × (beyond Coefficient coefficient None ≡ None)) (λ out. beyond Coefficient coefficient None ≡ Some out) }
+    ensures { FirstFault (bed_fault coefficient) (λ bed. pos bed.coefficient ≡ coefficient) result }
 {
-    let checked = Quantity::Coefficient.checked(coefficient)? as u32;
-    match BareBed::new(checked) {
-        Ok(bed) => Ok(bed),
-        Err(_) => unreachable(),
-    }
+    Ok(BareBed::new(Quantity::Coefficient.natural(coefficient)?).unwrap())
 }
 
 fn weed(strength: i64, coefficient: i64) -> Result<Weed<BareBed>, OutOfRange>
-    ensures { MatchResult result (λ weed. (pos weed.strength ≡ strength) × (pos weed.over.coefficient ≡ coefficient) × (beyond Strength strength (beyond Coefficient coefficient None) ≡ None)) (λ out. beyond Strength strength (beyond Coefficient coefficient None) ≡ Some out) }
+    ensures { FirstFault (weed_fault strength coefficient) (λ weed. (pos weed.strength.value ≡ strength) × (pos weed.over.coefficient ≡ coefficient)) result }
 {
-    let checked = Quantity::Strength.checked(strength)? as u32;
-    let bed = bed(coefficient)?;
-    match Weed::new(checked, bed) {
-        Ok(weed) => Ok(weed),
-        Err(_) => unreachable(),
-    }
+    let strength = Quantity::Strength.natural(strength)?;
+    Ok(Weed::new(strength, bed(coefficient)?).unwrap())
 }

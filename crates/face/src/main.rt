@@ -7,9 +7,7 @@ mod quantity;
 mod question;
 mod reading;
 
-use answer::reply;
-use checking::check;
-use reading::read;
+use answer::answer_line;
 use std::io;
 use std::io::{BufRead, BufReader};
 
@@ -26,12 +24,9 @@ fn main(rt: HostRuntime) -> io::Result<()> {
         if is_remark(text) {
             continue;
         }
-        match read(text) {
-            Ok(asked) => match check(asked) {
-                Ok(question) => rt.println(reply(question))?,
-                Err(out) => rt.println(out)?,
-            },
-            Err(unreadable) => rt.println(unreadable)?,
+        match answer_line(text) {
+            Ok(answer) => rt.println(answer)?,
+            Err(why) => rt.println(why)?,
         }
     }
     Ok(())

@@ -1,17 +1,23 @@
 // The numbers of a question, by name, each with its range.
-ghost use Rattle.std.specs.Prelude.{◌≡◌, true, false, MatchResult};
+ghost use Rattle.std.specs.Prelude.{◌≡◌, true, false, pos, ◌≤ℤ◌, MatchResult};
 ghost use Rattle.face.specs.Quantities.{least_of, greatest_of, within, of_rule};
 
+use std::error::Error;
 use std::fmt;
 
-#[derive(Clone, Copy)]
+// A side of a face.
+#[derive(Clone, Copy, Debug, PartialEq, Eq)]
+pub enum Bank {
+    Left,
+    Right,
+}
+
+#[derive(Clone, Copy, Debug, PartialEq, Eq)]
 pub enum Quantity {
     Depth,
     FluxNumber,
-    LeftDepth,
-    LeftVelocity,
-    RightDepth,
-    RightVelocity,
+    SideDepth { bank: Bank },
+    SideVelocity { bank: Bank },
     Coefficient,
     Strength,
     Flow,
@@ -21,7 +27,7 @@ pub enum Quantity {
 }
 
 // A number that no question may have.
-#[derive(Clone, Copy)]
+#[derive(Clone, Copy, Debug, PartialEq, Eq)]
 pub enum OutOfRange {
     Beyond { quantity: Quantity, value: i64 },
     DryMoving { velocity: Quantity, value: i64 },
@@ -34,10 +40,8 @@ impl Quantity {
         match self {
             Quantity::Depth => 0,
             Quantity::FluxNumber => 1,
-            Quantity::LeftDepth => 0,
-            Quantity::LeftVelocity => -10_000,
-            Quantity::RightDepth => 0,
-            Quantity::RightVelocity => -10_000,
+            Quantity::SideDepth { bank: _ } => 0,
+            Quantity::SideVelocity { bank: _ } => -10_000,
             Quantity::Coefficient => 0,
             Quantity::Strength => 0,
             Quantity::Flow => -30_000_000_000,
@@ -53,10 +57,8 @@ impl Quantity {
         match self {
             Quantity::Depth => 4_294_967_295,
             Quantity::FluxNumber => 2,
-            Quantity::LeftDepth => 2_000_000,
-            Quantity::LeftVelocity => 10_000,
-            Quantity::RightDepth => 2_000_000,
-            Quantity::RightVelocity => 10_000,
+            Quantity::SideDepth { bank: _ } => 2_000_000,
+            Quantity::SideVelocity { bank: _ } => 10_000,
             Quantity::Coefficient => 1_000,
             Quantity::Strength => 1_000_000_000,
             Quantity::Flow => 30_000_000_000,
@@ -68,7 +70,7 @@ impl Quantity {
 
     // The value, where it is in range.
     pub(crate) fn checked(self, value: i64) -> Result<i64, OutOfRange>
-        ensures { MatchResult result (λ same. (same ≡ value) × (within self value ≡ true)) (λ out. (out ≡ OutOfRange.Beyond self value) × (within self value ≡ false)) }
+        ensures { MatchResult result (λ same. (same ≡ value) × (within self value ≡ true) × (least_of self ≤ℤ same) × (same ≤ℤ greatest_of self)) (λ out. (out ≡ OutOfRange.Beyond self value) × (within self value ≡ false)) }
     {
         if self.least() <= value && value <= self.greatest() {
             Ok(value)
@@ -80,38 +82,49 @@ impl Quantity {
         }
     }
 
+    // The same of a quantity that 32 bits hold.
+    pub(crate) fn natural(self, value: i64) -> Result<u32, OutOfRange>
+        requires low { pos 0 ≤ℤ least_of self }
+        requires high { greatest_of self ≤ℤ pos 4294967295 }
+        ensures { MatchResult result (λ n. (pos n ≡ value) × (within self value ≡ true) × (least_of self ≤ℤ pos n) × (pos n ≤ℤ greatest_of self)) (λ out. (out ≡ OutOfRange.Beyond self value) × (within self value ≡ false)) }
+    {
+        Ok(self.checked(value)? as u32)
+    }
+
     // Whether a number out of this range means that a rule cannot be made.
     pub(crate) fn makes_rule(self) -> bool
         ensures { result ≡ of_rule self }
     {
-        match self {
-            Quantity::FluxNumber | Quantity::Coefficient | Quantity::Strength => true,
-            _ => false,
-        }
+        matches!(
+            self,
+            Quantity::FluxNumber | Quantity::Coefficient | Quantity::Strength
+        )
     }
+}
 
-    fn name(self) -> &'static str {
-        match self {
-            Quantity::Depth => "depth",
-            Quantity::FluxNumber => "flux number",
-            Quantity::LeftDepth => "left depth",
-            Quantity::LeftVelocity => "left velocity",
-            Quantity::RightDepth => "right depth",
-            Quantity::RightVelocity => "right velocity",
-            Quantity::Coefficient => "coefficient",
-            Quantity::Strength => "strength",
-            Quantity::Flow => "flow",
-            Quantity::Speed => "speed",
-            Quantity::NewDepth => "new depth",
-            Quantity::Rate => "rate",
-        }
+impl fmt::Display for Bank {
+    fn fmt<W: fmt::Write>(&self, f: &mut fmt::Formatter<W>) -> fmt::Result {
+        f.write_str(match self {
+            Bank::Left => "left",
+            Bank::Right => "right",
+        })
     }
 }
 
 impl fmt::Display for Quantity {
     fn fmt<W: fmt::Write>(&self, f: &mut fmt::Formatter<W>) -> fmt::Result {
-        let name = self.name();
-        write!(f, "{name}")
+        match self {
+            Quantity::Depth => f.write_str("depth"),
+            Quantity::FluxNumber => f.write_str("flux number"),
+            Quantity::SideDepth { bank } => write!(f, "{bank} depth"),
+            Quantity::SideVelocity { bank } => write!(f, "{bank} velocity"),
+            Quantity::Coefficient => f.write_str("coefficient"),
+            Quantity::Strength => f.write_str("strength"),
+            Quantity::Flow => f.write_str("flow"),
+            Quantity::Speed => f.write_str("speed"),
+            Quantity::NewDepth => f.write_str("new depth"),
+            Quantity::Rate => f.write_str("rate"),
+        }
     }
 }
 
@@ -140,3 +153,5 @@ impl fmt::Display for OutOfRange {
         }
     }
 }
+
+impl Error for OutOfRange {}

@@ -1,11 +1,12 @@
 // Reads the words of a line as a question.
-use crate::quantity::Quantity;
-use crate::question::Asked;
+use crate::quantity::{Bank, Quantity};
+use crate::question::{Asked, AskedSide, AskedStream};
+use std::error::Error;
 use std::fmt;
 use std::str::SplitWhitespace;
 
 // Why a line cannot be read.
-#[derive(Clone, Copy)]
+#[derive(Clone, Copy, Debug, PartialEq, Eq)]
 pub enum Unreadable<'a> {
     Unknown { word: &'a str },
     Missing { quantity: Quantity },
@@ -34,6 +35,8 @@ impl fmt::Display for Unreadable<'_> {
     }
 }
 
+impl Error for Unreadable<'_> {}
+
 // `line` has at least one word.
 pub(crate) fn read(line: &str) -> Result<Asked, Unreadable<'_>> {
     let mut words = line.split_whitespace();
@@ -46,72 +49,45 @@ pub(crate) fn read(line: &str) -> Result<Asked, Unreadable<'_>> {
 
 fn asked<'a>(words: &mut SplitWhitespace<'a>) -> Result<Asked, Unreadable<'a>> {
     match words.next().unwrap_or("") {
-        "root" => root(words),
-        "flux" => flux(words),
-        "bare" => bare(words),
-        "weed" => weed(words),
+        "root" => Ok(Asked::Root {
+            depth: number(words, Quantity::Depth)?,
+        }),
+        "flux" => Ok(Asked::Flux {
+            number: number(words, Quantity::FluxNumber)?,
+            left: side(words, Bank::Left)?,
+            right: side(words, Bank::Right)?,
+        }),
+        "bare" => Ok(Asked::Bare {
+            coefficient: number(words, Quantity::Coefficient)?,
+            stream: stream(words)?,
+        }),
+        "weed" => Ok(Asked::Weed {
+            strength: number(words, Quantity::Strength)?,
+            coefficient: number(words, Quantity::Coefficient)?,
+            stream: stream(words)?,
+        }),
         word => Err(Unreadable::Unknown { word }),
     }
 }
 
 fn number<'a>(words: &mut SplitWhitespace<'a>, quantity: Quantity) -> Result<i64, Unreadable<'a>> {
-    let Some(word) = words.next() else {
-        return Err(Unreadable::Missing { quantity });
-    };
-    match word.parse::<i64>() {
-        Ok(value) => Ok(value),
-        Err(_) => Err(Unreadable::NoNumber { quantity, word }),
-    }
+    let word = words.next().ok_or(Unreadable::Missing { quantity })?;
+    word.parse::<i64>()
+        .map_err(|_| Unreadable::NoNumber { quantity, word })
 }
 
-fn root<'a>(words: &mut SplitWhitespace<'a>) -> Result<Asked, Unreadable<'a>> {
-    let depth = number(words, Quantity::Depth)?;
-    Ok(Asked::Root { depth })
-}
-
-fn flux<'a>(words: &mut SplitWhitespace<'a>) -> Result<Asked, Unreadable<'a>> {
-    let number_ = number(words, Quantity::FluxNumber)?;
-    let left_depth = number(words, Quantity::LeftDepth)?;
-    let left_velocity = number(words, Quantity::LeftVelocity)?;
-    let right_depth = number(words, Quantity::RightDepth)?;
-    let right_velocity = number(words, Quantity::RightVelocity)?;
-    Ok(Asked::Flux {
-        number: number_,
-        left_depth,
-        left_velocity,
-        right_depth,
-        right_velocity,
+fn side<'a>(words: &mut SplitWhitespace<'a>, bank: Bank) -> Result<AskedSide, Unreadable<'a>> {
+    Ok(AskedSide {
+        depth: number(words, Quantity::SideDepth { bank })?,
+        velocity: number(words, Quantity::SideVelocity { bank })?,
     })
 }
 
-fn bare<'a>(words: &mut SplitWhitespace<'a>) -> Result<Asked, Unreadable<'a>> {
-    let coefficient = number(words, Quantity::Coefficient)?;
-    let flow = number(words, Quantity::Flow)?;
-    let speed = number(words, Quantity::Speed)?;
-    let depth = number(words, Quantity::NewDepth)?;
-    let rate = number(words, Quantity::Rate)?;
-    Ok(Asked::Bare {
-        coefficient,
-        flow,
-        speed,
-        depth,
-        rate,
-    })
-}
-
-fn weed<'a>(words: &mut SplitWhitespace<'a>) -> Result<Asked, Unreadable<'a>> {
-    let strength = number(words, Quantity::Strength)?;
-    let coefficient = number(words, Quantity::Coefficient)?;
-    let flow = number(words, Quantity::Flow)?;
-    let speed = number(words, Quantity::Speed)?;
-    let depth = number(words, Quantity::NewDepth)?;
-    let rate = number(words, Quantity::Rate)?;
-    Ok(Asked::Weed {
-        strength,
-        coefficient,
-        flow,
-        speed,
-        depth,
-        rate,
+fn stream<'a>(words: &mut SplitWhitespace<'a>) -> Result<AskedStream, Unreadable<'a>> {
+    Ok(AskedStream {
+        flow: number(words, Quantity::Flow)?,
+        speed: number(words, Quantity::Speed)?,
+        depth: number(words, Quantity::NewDepth)?,
+        rate: number(words, Quantity::Rate)?,
     })
 }
