@@ -1,5 +1,5 @@
 -- The table of a lake is sound, and what is sound makes a lake.
-use Rattle.std.proofs.Common.{◌≡◌, ℕ, zero, suc, ◌+◌, ◌*◌, ◌<◌, ◌≤◌, Bool, false, ◌||◌, ltb, List, [], ◌∷◌, length, get_or, nat_abs, vec_items, refl, ◌∙◌, subst, arith}
+use Rattle.std.proofs.Common.{◌≡◌, ℕ, zero, suc, ◌+◌, ◌*◌, ◌<◌, ◌≤◌, Bool, false, ◌||◌, ltb, List, [], ◌∷◌, length, get_or, nat_abs, vec_items, replicate, refl, ap, ◌∙◌, subst, arith}
 use Rattle.std.proofs.lemmas.List.{get_or-map, length-map}
 use Rattle.std.proofs.lemmas.Bool.{ltb-false, le-ltb, or_parts}
 use Rattle.book.specs.declared.cell.Cell.{Cell}
@@ -77,6 +77,11 @@ water_ranged w = record {
   dry_east = w.dry;
   dry_north = w.parched;
 }
+
+-- the cells of so much of the same water
+pub cells_alike : (n : ℕ) (w : Water) (k : Cell) → w.cell ≡ k → cells_of (replicate n w) ≡ replicate n k
+cells_alike zero w k e = refl
+cells_alike (suc n) w k e = ap (λ (j : Cell). j ∷ cells_of (replicate n w)) e ∙ ap (λ (js : List Cell). k ∷ js) (cells_alike n w k e)
 
 -- the cell at a place is that of the water there
 pub cell_read : (ws : List Water) (k : ℕ) (w : Water) → k < length ws → get_or (cells_of ws) k no_cell ≡ (get_or ws k w).cell

@@ -6,8 +6,9 @@ ghost use Rattle.sheet.specs.Ghosts.{sides_amiss};
 use crate::water::Water;
 use book::side::Side;
 
-// Cells row by row from the south-west, and the sides in the order of their numbers.
-#[derive(Drop)]
+// Cells row by row from the south-west in one `Vec`, so that a step goes over them in one loop, and the sides as an array in
+// the order of their numbers, which a turn permutes.
+#[derive(Debug, Drop)]
 pub struct Lake {
     pub rows: usize,
     pub columns: usize,

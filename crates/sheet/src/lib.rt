@@ -4,6 +4,6 @@
 pub mod crossing;
 pub mod lake;
 pub mod place;
-mod scratch;
+pub mod scratch;
 pub mod sheet;
 pub mod water;

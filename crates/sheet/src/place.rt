@@ -1,7 +1,7 @@
 // A place on a sheet.
 
 // Row 0 is the southernmost, column 0 the westernmost.
-#[derive(Clone, Copy, PartialEq, Eq)]
+#[derive(Clone, Copy, Debug, PartialEq, Eq)]
 pub struct Place {
     pub row: usize,
     pub column: usize,

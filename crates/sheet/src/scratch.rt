@@ -4,58 +4,28 @@ ghost use Rattle.book.specs.Sheets.{no_cell};
 ghost use Rattle.sheet.specs.Waters.{cells_of};
 
 use crate::crossing::Crossing;
-use crate::sheet::Scratch;
 use crate::water::Water;
-use book::cell::Cell;
 use std::alloc::{AllocError, Global};
 
-impl Water {
-    // A cell that is not laid.
-    pub fn unlaid() -> Water
-        ensures { result.cell ≡ no_cell }
-    {
-        let cell = Cell {
-            laid: false,
-            bed: 0,
-            depth: 0,
-            east: 0,
-            north: 0,
-        };
-        Water {
-            cell,
-            east: 0,
-            north: 0,
-        }
-    }
+// What crosses the western and the southern face of a cell.
+#[derive(Clone, Copy, Debug, PartialEq, Eq)]
+pub struct OwnFaces {
+    pub west: Crossing,
+    pub south: Crossing,
 }
 
-// So many cells that are not laid.
-pub(crate) fn unlaid_cells(heap: Global, count: usize) -> Result<Vec<Water>, AllocError>
-    ensures { IfOk result (λ v. cells_of v.items ≡ replicate count no_cell) }
-{
-    let mut cells = Vec::new(heap);
-    cells.resize(count, Water::unlaid())?;
-    Ok(cells)
-}
-
-// So many faces that nothing has crossed.
-fn idle_faces(heap: Global, count: usize) -> Result<Vec<Crossing>, AllocError>
-    ensures { IfOk result (λ v. length v.items ≡ count) }
-{
-    let idle = Crossing {
-        water: 0,
-        push: 0,
-        carried: 0,
-        left: 0,
-        right: 0,
-    };
-    let mut faces = Vec::new(heap);
-    faces.resize(count, idle)?;
-    Ok(faces)
+// The cells that a step makes, and what crosses the faces of each cell, the eastern faces of the last column and the
+// northern faces of the last row.
+#[derive(Debug, Drop)]
+pub struct Scratch {
+    pub cells: Vec<Water>,
+    pub faces: Vec<OwnFaces>,
+    pub east: Vec<Crossing>,
+    pub north: Vec<Crossing>,
 }
 
 impl Scratch {
-    // For a sheet of so many rows, columns and cells.
+    // For a sheet of so many rows, columns and cells; its cells are not laid, and nothing has crossed its faces.
     pub fn new(
         heap: Global,
         rows: usize,
@@ -63,17 +33,38 @@ impl Scratch {
         cells: usize,
     ) -> Result<Scratch, AllocError>
         ensures cells { IfOk result (λ s. length s.cells.items ≡ cells) }
-        ensures west { IfOk result (λ s. length s.west.items ≡ cells) }
-        ensures south { IfOk result (λ s. length s.south.items ≡ cells) }
+        ensures unlaid { IfOk result (λ s. cells_of s.cells.items ≡ replicate cells no_cell) }
+        ensures faces { IfOk result (λ s. length s.faces.items ≡ cells) }
         ensures east { IfOk result (λ s. length s.east.items ≡ rows) }
         ensures north { IfOk result (λ s. length s.north.items ≡ columns) }
     {
+        let idle = Crossing::idle();
+        let own = OwnFaces {
+            west: idle,
+            south: idle,
+        };
         Ok(Scratch {
-            cells: unlaid_cells(heap, cells)?,
-            west: idle_faces(heap, cells)?,
-            south: idle_faces(heap, cells)?,
-            east: idle_faces(heap, rows)?,
-            north: idle_faces(heap, columns)?,
+            cells: vec![in heap; Water::unlaid(); cells]?,
+            faces: vec![in heap; own; cells]?,
+            east: vec![in heap; idle; rows]?,
+            north: vec![in heap; idle; columns]?,
         })
+    }
+}
+
+#[cfg(test)]
+mod tests {
+    use super::*;
+    use std::test::Fail;
+
+    #[test]
+    fn room_for_two_rows_of_three(rt: HostRuntime) -> Result<(), Fail> {
+        let scratch = Scratch::new(rt.alloc(), 2, 3, 6)?;
+        assert_eq!(rt; scratch.cells.len(), 6);
+        assert_eq!(rt; scratch.faces.len(), 6);
+        assert_eq!(rt; scratch.east.len(), 2);
+        assert_eq!(rt; scratch.north.len(), 3);
+        assert!(rt; !scratch.cells[5].cell.laid);
+        Ok(())
     }
 }

@@ -1,11 +1,12 @@
 // One cell of a lake, in range.
 ghost use Rattle.std.specs.Prelude.{◌≡◌, ◌≤◌, pos, unsigned_abs};
 ghost use Rattle.book.specs.Numbers.{velocity};
+ghost use Rattle.book.specs.Sheets.{no_cell};
 
 use book::cell::Cell;
 
 // A cell with its velocities to the east and to the north, in mm/s.
-#[derive(Clone, Copy)]
+#[derive(Clone, Copy, Debug, PartialEq, Eq)]
 pub struct Water {
     pub cell: Cell,
     pub east: i32,
@@ -18,4 +19,17 @@ pub struct Water {
     ghost still: { unsigned_abs north ≤ 10000 },
     ghost dry: { cell.depth ≡ 0 → cell.east ≡ pos 0 },
     ghost parched: { cell.depth ≡ 0 → cell.north ≡ pos 0 },
+}
+
+impl Water {
+    // A cell that is not laid.
+    pub fn unlaid() -> Water
+        ensures { result.cell ≡ no_cell }
+    {
+        Water {
+            cell: Cell::default(),
+            east: 0,
+            north: 0,
+        }
+    }
 }
