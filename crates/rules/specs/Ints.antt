@@ -41,6 +41,9 @@ pub near_mul : (a b : ℤ) (m n : ℕ) → unsigned_abs a ≤ m → unsigned_abs
 near_mul a b m n h k = omega (arith, abs_mul a b, mul-le (unsigned_abs a) (unsigned_abs b) m n h k)
 
 -- ---- quotients
+pub halved : (a : ℤ) → int_div (a +ℤ a) (pos 2) ≡ a
+halved a = grind (arith, ints)
+
 pub quot_neg : (a : ℤ) (k : ℕ) → int_div (neg_ℤ a) (pos k) ≡ neg_ℤ (int_div a (pos k))
 quot_neg (pos zero) k = omega (arith, ints)
 quot_neg (pos (suc a)) k = refl
