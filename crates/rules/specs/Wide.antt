@@ -29,7 +29,7 @@ pub from32 : (x z : ℤ) (k : ℕ) → x ≡ to_z w32 (of_z w32 z) → unsigned_
 from32 x z k e h l = omega (arith, ints)
 
 pub fits : (a : Wide) → a.bound < 2 ^ 63 → FitsSigned w64 a.code
-fits a h = let e = a.is in let n = a.near in omega (arith, ints)
+fits a h = omega (arith, ints)
 
 abbrev pub store : (a : Wide) → a.bound < 2 ^ 63 → Wide
 store a h = record { code = to_z w64 (of_z w64 a.code); meant = a.meant; bound = a.bound; is = to_z-of_z w64 a.code (fits a h) ∙ a.is; near = a.near }
