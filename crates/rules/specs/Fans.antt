@@ -1,5 +1,5 @@
 -- The state between two waves a < 0 < b that go apart: its bounds, between equal sides, and seen from across the face.
-use Rattle.std.specs.Prelude.{◌≡◌, ℕ, ◌+◌, ◌*◌, ◌^◌, ◌≤◌, ℤ, pos, ◌+ℤ◌, ◌-ℤ◌, ◌*ℤ◌, neg_ℤ, ◌≤ℤ◌, ◌<ℤ◌, int_div, unsigned_abs}
+use Rattle.std.specs.Prelude.{◌≡◌, ℕ, ◌+◌, ◌*◌, ◌^◌, ◌<◌, ◌≤◌, ℤ, pos, ◌+ℤ◌, ◌-ℤ◌, ◌*ℤ◌, neg_ℤ, ◌≤ℤ◌, ◌<ℤ◌, int_div, unsigned_abs}
 use Rattle.std.proofs.Common.{mul-le-mul_left, arith}
 use Rattle.std.proofs.Math.IntN.{neg_ℤ-neg_ℤ, neg_ℤ-+ℤ, +ℤ_comm, +ℤ_invr, +ℤ_idr, *ℤ_comm, *ℤ-zero}
 use Rattle.std.proofs.Math.Nat.{div-le_of_le-mul, mul-div-le}
@@ -48,16 +48,13 @@ fan_le m a b n v d e f l o u =
 pub fan_even : (a b p : ℤ) (d : ℕ) → a <ℤ pos 0 → pos 0 <ℤ b → fan_water a b p p d d ≡ p
 unfolding fan_water
 fan_even a b p d h k =
-    let t : top a b p p d d ≡ (b -ℤ a) *ℤ p = omega (arith, ints, mul_sub p b a, mul_sub (a *ℤ b) (pos d) (pos d)) in
-    let w = width a b h k in
-    let q = quot_whole p (unsigned_abs a + unsigned_abs b) (omega (arith, ints)) in
-    cc
+    let t : b *ℤ p -ℤ a *ℤ p ≡ (b -ℤ a) *ℤ p = omega (arith, ints, mul_sub p b a) in
+    let z : 0 < unsigned_abs a + unsigned_abs b = omega (arith, ints) in
+    simp (+ℤ_invr, *ℤ-zero, +ℤ_idr, t, width, quot_whole)
 
 pub fan_exchanged : (a b p q : ℤ) (d e : ℕ) → fan_water (neg_ℤ b) (neg_ℤ a) (neg_ℤ q) (neg_ℤ p) e d ≡ neg_ℤ (fan_water a b p q d e)
 unfolding fan_water
-fan_exchanged a b p q d e =
-    let m : (x y : ℤ) → neg_ℤ x *ℤ neg_ℤ y ≡ x *ℤ y = λ x y. grind (arith, ints) in
-    simp (m, ← quotient_neg, neg_ℤ-+ℤ, ← mul_neg, neg_ℤ-neg_ℤ, +ℤ_comm, *ℤ_comm) (rw (+ℤ_comm (a *ℤ b *ℤ (pos d -ℤ pos e))))
+fan_exchanged a b p q d e = simp (← quotient_neg, neg_ℤ-+ℤ, neg_mul, mul_neg, neg_ℤ-neg_ℤ, mul_sub, +ℤ_comm, *ℤ_comm)
 
 -- ---- the push
 pub fan_push_near : (a b f g p q : ℤ) → Apart 24008 a b → unsigned_abs f ≤ 7924000000000000 → unsigned_abs g ≤ 7924000000000000 → unsigned_abs p ≤ 20000000000 → unsigned_abs q ≤ 20000000000 → unsigned_abs (fan_push a b p q f g) ≤ 10 ^ 17

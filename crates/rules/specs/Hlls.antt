@@ -59,12 +59,12 @@ hll_lawful = record {
 module _ (dl : ℕ) (nl : ℤ) (dr : ℕ) (nr : ℤ) where
   pub goes_right : pos 0 ≤ℤ slowest dl nl dr nr → (hll_water dl nl dr nr ≡ discharge dl nl) × (hll_push dl nl dr nr ≡ momentum dl nl)
   unfolding hll_water hll_push by_waves
-  goes_right h = (grind (arith, ints), grind (arith, ints))
+  goes_right h = grind (arith, ints)
 
   pub goes_left : slowest dl nl dr nr <ℤ pos 0 → fastest dl nl dr nr ≤ℤ pos 0 → (hll_water dl nl dr nr ≡ discharge dr nr) × (hll_push dl nl dr nr ≡ momentum dr nr)
   unfolding hll_water hll_push by_waves
-  goes_left h k = (grind (arith, ints), grind (arith, ints))
+  goes_left h k = grind (arith, ints)
 
   pub goes_apart : (c1 c2 : ℤ) → c1 ≡ slowest dl nl dr nr → c2 ≡ fastest dl nl dr nr → slowest dl nl dr nr <ℤ pos 0 → pos 0 <ℤ fastest dl nl dr nr → (fan_water c1 c2 (discharge dl nl) (discharge dr nr) dl dr ≡ hll_water dl nl dr nr) × (fan_push c1 c2 (discharge dl nl) (discharge dr nr) (momentum dl nl) (momentum dr nr) ≡ hll_push dl nl dr nr)
   unfolding hll_water hll_push by_waves
-  goes_apart c1 c2 e f h k = (grind (arith, ints), grind (arith, ints))
+  goes_apart c1 c2 e f h k = grind (arith, ints)

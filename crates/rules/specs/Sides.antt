@@ -40,7 +40,7 @@ pub paced : (dl : ℕ) (nl : ℤ) (dr : ℕ) (nr : ℤ) → (unsigned_abs (disch
 unfolding discharge face_pace pace_of
 paced dl nl dr nr =
     let m = face_pace dl nl dr nr in
-    (omega (arith, near_mul (pos dl) nl dl m (omega arith) (omega arith)), omega (arith, near_mul (pos dr) nr dr m (omega arith) (omega arith)))
+    omega (arith, near_mul (pos dl) nl dl m (omega arith) (omega arith), near_mul (pos dr) nr dr m (omega arith) (omega arith))
 
 -- ---- with the velocity reversed
 pub discharge_reversed : (d : ℕ) (n : ℤ) → discharge d (neg_ℤ n) ≡ neg_ℤ (discharge d n)
