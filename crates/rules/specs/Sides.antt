@@ -1,5 +1,5 @@
 -- What the ranges of a side give, and a side seen from across the face.
-use Rattle.std.specs.Prelude.{◌≡◌, ℕ, ◌*◌, ◌≤◌, ℤ, pos, ◌*ℤ◌, neg_ℤ, ◌≤ℤ◌, unsigned_abs}
+use Rattle.std.specs.Prelude.{◌≡◌, ℕ, ◌*◌, ◌≤◌, ℤ, pos, ◌*ℤ◌, neg_ℤ, unsigned_abs}
 use Rattle.std.proofs.Common.{ap, ◌∙◌, arith, lit<, to_z, of_z}
 use Rattle.std.specs.Int.{w32}
 use Rattle.std.proofs.lemmas.Nat.{mul-le}
@@ -7,7 +7,6 @@ use Rattle.std.proofs.lemmas.Int.{ints}
 use Rattle.rules.specs.declared.side.FaceSide.{FaceSide}
 use Rattle.rules.specs.Root.{root_of}
 use Rattle.rules.specs.Side.{Facing, pace_of, face_pace, discharge, momentum}
-use Rattle.rules.specs.Hll.{slow_wave, fast_wave}
 use Rattle.rules.specs.Ints.{near_mul, mul_neg}
 use Rattle.rules.specs.Roots.{root_least}
 use Rattle.rules.specs.Wide.{Wide, given, from32, store}
@@ -54,12 +53,6 @@ momentum_reversed d n = grind (arith, ints)
 pub pace_exchanged : (dl : ℕ) (nl : ℤ) (dr : ℕ) (nr : ℤ) → face_pace dr (neg_ℤ nr) dl (neg_ℤ nl) ≡ face_pace dl nl dr nr
 unfolding face_pace pace_of
 pace_exchanged dl nl dr nr = omega (arith, ints)
-
--- ---- dry sides
--- where the slower wave does not go left and the faster does not go right, there is no water
-pub becalmed : (d : ℕ) (n : ℤ) → pos 0 ≤ℤ slow_wave d n → fast_wave d n ≤ℤ pos 0 → (discharge d n ≡ pos 0) × (momentum d n ≡ pos 0)
-unfolding slow_wave fast_wave discharge momentum
-becalmed d n h k = let e : d ≡ 0 = grind (arith, ints, (root_least d).enough) in (grind (arith, ints), grind (arith, ints))
 
 -- ---- what the code has of a side, in 64 bits
 module _ (s : FaceSide) (x : ℤ) where
