@@ -1,15 +1,13 @@
 -- What the ranges of a side give, and a side seen from across the face.
-use Rattle.std.specs.Prelude.{◌≡◌, ℕ, ◌*◌, ◌<◌, ◌≤◌, ℤ, pos, ◌+ℤ◌, ◌*ℤ◌, neg_ℤ, ◌≤ℤ◌, unsigned_abs}
-use Rattle.std.proofs.Common.{ap, subst, ◌∙◌, ⊎_elim, le_refl, arith, lit<, to_z, of_z}
+use Rattle.std.specs.Prelude.{◌≡◌, ℕ, ◌*◌, ◌≤◌, ℤ, pos, ◌*ℤ◌, neg_ℤ, unsigned_abs}
+use Rattle.std.proofs.Common.{ap, ◌∙◌, arith, lit<, to_z, of_z}
 use Rattle.std.specs.Int.{w32}
 use Rattle.std.proofs.lemmas.Nat.{mul-le}
 use Rattle.std.proofs.lemmas.Int.{ints}
-use Rattle.std.proofs.lemmas.Bool.{cases_lt}
 use Rattle.rules.specs.declared.side.FaceSide.{FaceSide}
 use Rattle.rules.specs.Root.{root_of}
 use Rattle.rules.specs.Side.{Facing, pace_of, face_pace, discharge, momentum}
-use Rattle.rules.specs.Hll.{slow_wave, fast_wave}
-use Rattle.rules.specs.Ints.{near_mul, mul_neg, neg_neg_mul, mul_le_zero, mul_ge_zero}
+use Rattle.rules.specs.Ints.{near_mul, mul_neg}
 use Rattle.rules.specs.Roots.{root_least}
 use Rattle.rules.specs.Wide.{Wide, given, from32, store}
 
@@ -19,15 +17,11 @@ facing s = record { shallow = s.shallow; slow = s.slow; dry = s.dry }
 
 -- ---- bounds
 pub root_near : (d : ℕ) → d ≤ 2000000 → root_of d ≤ 14008
-root_near d h = ⊎_elim (λ (k : 14008 < root_of d). omega (arith, (root_least d).least 14008 k)) (λ k. k) (cases_lt 14008 (root_of d))
-
-pub pace_near : (d : ℕ) (n : ℤ) → Facing d n → pace_of d n ≤ 24008
-unfolding pace_of
-pace_near d n r = omega (arith, root_near d r.shallow, r.slow)
+root_near d h = grind (arith, (root_least d).least 14008)
 
 pub face_near : (dl : ℕ) (nl : ℤ) (dr : ℕ) (nr : ℤ) → Facing dl nl → Facing dr nr → face_pace dl nl dr nr ≤ 24008
-unfolding face_pace
-face_near dl nl dr nr p q = omega (arith, pace_near dl nl p, pace_near dr nr q)
+unfolding face_pace pace_of
+face_near dl nl dr nr p q = omega (arith, root_near dl p.shallow, root_near dr q.shallow)
 
 pub discharge_near : (d : ℕ) (n : ℤ) → Facing d n → unsigned_abs (discharge d n) ≤ 20000000000
 unfolding discharge
@@ -38,21 +32,14 @@ unfolding momentum
 momentum_near d n r =
     let h = r.shallow in
     let a = near_mul (pos (20 * d)) (n *ℤ n) 40000000 100000000 (omega arith) (near_mul n n 10000 10000 r.slow r.slow) in
-    let b : d * d ≤ 4000000000000 = mul-le d d 2000000 2000000 h h in
-    omega (arith, ints)
+    omega (arith, ints, mul-le d d 2000000 2000000 h h)
 
--- ---- at the pace of the face
-pub discharge_paced : (d : ℕ) (n : ℤ) (m : ℕ) → unsigned_abs n ≤ m → unsigned_abs (discharge d n) ≤ m * d
-unfolding discharge
-discharge_paced d n m h = omega (arith, near_mul (pos d) n d m (le_refl d) h)
-
-pub left_paced : (dl : ℕ) (nl : ℤ) (dr : ℕ) (nr : ℤ) → unsigned_abs nl ≤ face_pace dl nl dr nr
-unfolding face_pace pace_of
-left_paced dl nl dr nr = omega arith
-
-pub right_paced : (dl : ℕ) (nl : ℤ) (dr : ℕ) (nr : ℤ) → unsigned_abs nr ≤ face_pace dl nl dr nr
-unfolding face_pace pace_of
-right_paced dl nl dr nr = omega arith
+-- at the pace of the face
+pub paced : (dl : ℕ) (nl : ℤ) (dr : ℕ) (nr : ℤ) → (unsigned_abs (discharge dl nl) ≤ face_pace dl nl dr nr * dl) × (unsigned_abs (discharge dr nr) ≤ face_pace dl nl dr nr * dr)
+unfolding discharge face_pace pace_of
+paced dl nl dr nr =
+    let m = face_pace dl nl dr nr in
+    omega (arith, near_mul (pos dl) nl dl m (omega arith) (omega arith), near_mul (pos dr) nr dr m (omega arith) (omega arith))
 
 -- ---- with the velocity reversed
 pub discharge_reversed : (d : ℕ) (n : ℤ) → discharge d (neg_ℤ n) ≡ neg_ℤ (discharge d n)
@@ -61,44 +48,11 @@ discharge_reversed d n = mul_neg (pos d) n
 
 pub momentum_reversed : (d : ℕ) (n : ℤ) → momentum d (neg_ℤ n) ≡ momentum d n
 unfolding momentum
-momentum_reversed d n = ap (λ (t : ℤ). (pos (20 * d) *ℤ t) +ℤ pos (981 * (d * d))) (neg_neg_mul n n)
+momentum_reversed d n = grind (arith, ints)
 
 pub pace_exchanged : (dl : ℕ) (nl : ℤ) (dr : ℕ) (nr : ℤ) → face_pace dr (neg_ℤ nr) dl (neg_ℤ nl) ≡ face_pace dl nl dr nr
 unfolding face_pace pace_of
 pace_exchanged dl nl dr nr = omega (arith, ints)
-
-pub slow_reversed : (d : ℕ) (n : ℤ) → slow_wave d (neg_ℤ n) ≡ neg_ℤ (fast_wave d n)
-unfolding slow_wave fast_wave
-slow_reversed d n = omega (arith, ints)
-
-pub fast_reversed : (d : ℕ) (n : ℤ) → fast_wave d (neg_ℤ n) ≡ neg_ℤ (slow_wave d n)
-unfolding slow_wave fast_wave
-fast_reversed d n = omega (arith, ints)
-
--- ---- dry sides
--- where the slower wave does not go left and the faster does not go right, there is no water
-pub becalmed : (d : ℕ) (n : ℤ) → pos 0 ≤ℤ slow_wave d n → fast_wave d n ≤ℤ pos 0 → d ≡ 0
-unfolding slow_wave fast_wave
-becalmed d n h k =
-    let e : root_of d ≡ 0 = omega (arith, ints) in
-    let f : 981 * d ≤ 0 = subst (λ (s : ℕ). 981 * d ≤ 10 * (s * s)) e (root_least d).enough in
-    omega arith
-
-pub discharge_dry : (d : ℕ) (n : ℤ) → d ≡ 0 → discharge d n ≡ pos 0
-unfolding discharge
-discharge_dry d n e = ap (λ (k : ℕ). pos k *ℤ n) e ∙ omega (arith, ints)
-
-pub momentum_dry : (d : ℕ) (n : ℤ) → d ≡ 0 → momentum d n ≡ pos 0
-unfolding momentum
-momentum_dry d n e = ap (λ (k : ℕ). (pos (20 * k) *ℤ (n *ℤ n)) +ℤ pos (981 * (k * k))) e ∙ omega (arith, ints)
-
-pub onward_carries : (d : ℕ) (n : ℤ) → pos 0 ≤ℤ slow_wave d n → pos 0 ≤ℤ discharge d n
-unfolding slow_wave discharge
-onward_carries d n h = mul_ge_zero d n (omega (arith, ints))
-
-pub back_carries : (d : ℕ) (n : ℤ) → fast_wave d n ≤ℤ pos 0 → discharge d n ≤ℤ pos 0
-unfolding fast_wave discharge
-back_carries d n h = mul_le_zero d n (omega (arith, ints))
 
 -- ---- what the code has of a side, in 64 bits
 module _ (s : FaceSide) (x : ℤ) where
