@@ -1,6 +1,6 @@
 -- What the ranges of a side give, and a side seen from across the face.
 use Rattle.std.specs.Prelude.{◌≡◌, ℕ, ◌*◌, ◌≤◌, ℤ, pos, ◌*ℤ◌, neg_ℤ, unsigned_abs}
-use Rattle.std.proofs.Common.{ap, ◌∙◌, arith, lit<, to_z, of_z}
+use Rattle.std.proofs.Common.{arith, lit<, to_z, of_z}
 use Rattle.std.specs.Int.{w32}
 use Rattle.std.proofs.lemmas.Nat.{mul-le}
 use Rattle.std.proofs.lemmas.Int.{ints}
@@ -61,9 +61,6 @@ module _ (s : FaceSide) (x : ℤ) where
 
   abbrev pub wide_normal : x ≡ to_z w32 (of_z w32 s.normal) → Wide
   wide_normal e = store (given x s.normal 10000 (from32 x s.normal 10000 e s.slow (lit< tt)) s.slow) (lit< tt)
-
-  abbrev pub wide_wave : x ≡ pos s.wave → Wide
-  wide_wave e = store (given x (pos (root_of s.depth)) 14008 (e ∙ ap pos s.celerity) (root_near s.depth s.shallow)) (lit< tt)
 
   abbrev pub wide_discharge : x ≡ discharge s.depth s.normal → Wide
   wide_discharge e = store (given x (discharge s.depth s.normal) 20000000000 e (discharge_near s.depth s.normal (facing s))) (lit< tt)

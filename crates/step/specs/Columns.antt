@@ -2,7 +2,7 @@
 use Rattle.book.specs.Faces as book
 use Rattle.step.specs.declared.column.Column.{Column}
 use Rattle.step.specs.declared.edge.Edge.{Edge}
-use Rattle.step.specs.declared.edge.Face.{Face}
+use Rattle.step.specs.declared.edge.Edges.{Edges}
 
 abbrev pub column_of : Column → book.Column
 column_of k = record { bed = k.bed; depth = k.depth; normal = k.normal; along = k.along }
@@ -10,5 +10,5 @@ column_of k = record { bed = k.bed; depth = k.depth; normal = k.normal; along = 
 abbrev pub edge_seen : Edge → book.FaceSide
 edge_seen e = record { depth = e.side.depth; normal = e.side.normal; along = e.along }
 
-abbrev pub face_seen : Face → book.Face
+abbrev pub face_seen : Edges → book.Face
 face_seen f = record { left = edge_seen f.left; right = edge_seen f.right }

@@ -52,9 +52,10 @@ fn fed_with(depth: u32, speed: u32, hand: Hand, inner: Column) -> Column
     requires slow { speed ≤ 10000 }
     ensures { column_of result ≡ ghost_column (Fed depth speed) hand (column_of inner) }
 {
+    let speed = speed as i32;
     let normal = match hand {
-        Hand::West | Hand::South => speed as i32,
-        Hand::East | Hand::North => -(speed as i32),
+        Hand::West | Hand::South => speed,
+        Hand::East | Hand::North => -speed,
     };
     Column {
         bed: inner.bed,

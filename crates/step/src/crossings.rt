@@ -3,27 +3,64 @@ ghost use Rattle.std.specs.Prelude.{◌≡◌, ℕ, ◌*◌, ◌^◌, ◌<◌, �
 ghost use Rattle.book.specs.Numbers.{trunc};
 ghost use Rattle.book.specs.Faces.{pace};
 ghost use Rattle.book.specs.Step.{Rules, rules_of, water as water_over, carried as carried_over};
+ghost use Rattle.rules.specs.Side.{face_pace};
 ghost use Rattle.step.specs.Columns.{face_seen};
 ghost use Rattle.step.specs.Crossings.{Crossed};
 
-use crate::edge::Face;
-use rules::flux::FluxRule;
-use rules::side::face_pace;
+use crate::edge::Edges;
+use rules::face::Face;
+use rules::flux::{Flux, FluxRule};
 use sheet::crossing::Crossing;
 
-// Whether four times the pace of a face is more than the width of a cell times the rate.
-pub(crate) fn too_slow(span: u32, face: Face) -> bool
-    ensures { result ≡ nat_lt span (4 * pace (face_seen face)) }
-{
-    span < 4 * pace_of(face)
-}
+impl Edges {
+    // The face without the velocities along it.
+    fn face(self) -> Face
+        ensures left { result.left ≡ self.left.side }
+        ensures right { result.right ≡ self.right.side }
+    {
+        Face {
+            left: self.left.side,
+            right: self.right.side,
+        }
+    }
 
-// The greater pace of the two sides.
-pub(crate) fn pace_of(face: Face) -> u32
-    ensures value { result ≡ pace (face_seen face) }
-    ensures bound { result ≤ 24008 }
-{
-    face_pace(face.left.side, face.right.side)
+    // Whether four times the pace of the face is more than the width of a cell times the rate.
+    pub(crate) fn is_too_fast(self, span: u32) -> bool
+        ensures { result ≡ nat_lt span (4 * pace (face_seen self)) }
+    {
+        span < 4 * self.face().pace()
+    }
+
+    // The flow along the face that the water carries over, which is that of the side it leaves.
+    fn carried(self, water: i64) -> i64
+        requires { unsigned_abs water ≤ 48016000000 }
+        ensures value { (rules : Rules) → water ≡ water_over rules (face_seen self) → result ≡ carried_over rules (face_seen self) }
+        ensures bound { unsigned_abs result ≤ 10 ^ 16 }
+    {
+        if water > 0 {
+            borne(water, self.left.along)
+        } else {
+            borne(water, self.right.along)
+        }
+    }
+
+    // What crosses the face under a flux rule; nothing where the step is too slow for it.
+    pub(crate) fn cross<F: FluxRule>(self, rule: &F, span: u32) -> Option<Crossing>
+        requires { 0 < span }
+        ensures { (slowed : ℤ → ℕ → ℕ → ℕ → ℤ) → Crossed (rules_of F.FluxRule.NUMBER (F.FluxRule.water rule.now) (F.FluxRule.push rule.now) slowed) span (face_seen self) result }
+    {
+        if self.is_too_fast(span) {
+            return None;
+        }
+        let Flux { water, push } = rule.flux(self.face());
+        Some(Crossing {
+            water: passing(water, span),
+            push,
+            carried: self.carried(water),
+            left: self.left.side.depth,
+            right: self.right.side.depth,
+        })
+    }
 }
 
 // The part of the water of a second that passes in a step.
@@ -34,19 +71,6 @@ fn passing(water: i64, span: u32) -> i64
     water / i64::from(span)
 }
 
-// The flow along the face that the water carries over, which is that of the side it leaves.
-fn carried(water: i64, face: Face) -> i64
-    requires { unsigned_abs water ≤ 48016000000 }
-    ensures value { (rules : Rules) → water ≡ water_over rules (face_seen face) → result ≡ carried_over rules (face_seen face) }
-    ensures bound { unsigned_abs result ≤ 10 ^ 16 }
-{
-    if water > 0 {
-        borne(water, face.left.along)
-    } else {
-        borne(water, face.right.along)
-    }
-}
-
 // Twenty times the water, at a velocity.
 fn borne(water: i64, along: i32) -> i64
     requires most { unsigned_abs water ≤ 48016000000 }
@@ -55,24 +79,4 @@ fn borne(water: i64, along: i32) -> i64
     ensures bound { unsigned_abs result ≤ 10 ^ 16 }
 {
     20 * water * i64::from(along)
-}
-
-// What crosses a face under a flux rule; nothing where the step is too slow for it.
-pub(crate) fn cross<F: FluxRule>(flux: &F, span: u32, face: Face) -> Option<Crossing>
-    requires { 0 < span }
-    ensures { (slowed : ℤ → ℕ → ℕ → ℕ → ℤ) → Crossed (rules_of F.FluxRule.number (F.FluxRule.water flux.now) (F.FluxRule.push flux.now) slowed) span (face_seen face) result }
-{
-    if too_slow(span, face) {
-        return None;
-    }
-    let (water, push) = flux.flux(face.left.side, face.right.side);
-    let carried = carried(water, face);
-    let water = passing(water, span);
-    Some(Crossing {
-        water,
-        push,
-        carried,
-        left: face.left.side.depth,
-        right: face.right.side.depth,
-    })
 }

@@ -5,7 +5,7 @@ ghost use Rattle.book.specs.Faces.{above, meet, face_of};
 ghost use Rattle.step.specs.Columns.{column_of, edge_seen, face_seen};
 
 use crate::column::Column;
-use crate::edge::{Edge, Face};
+use crate::edge::{Edge, Edges};
 use crate::numbers::positive_part;
 use book::side::Hand;
 use rules::root::root;
@@ -18,25 +18,17 @@ fn edge_of(depth: u32, column: Column) -> Edge
     ensures normal { result.side.normal ≡ where_wet depth column.normal }
     ensures along { result.along ≡ where_wet depth column.along }
 {
-    let wave = root(depth);
-    if depth == 0 {
-        let side = FaceSide {
-            depth,
-            normal: 0,
-            wave,
-        };
-        Edge { side, along: 0 }
+    let (normal, along) = if depth == 0 {
+        (0, 0)
     } else {
-        let side = FaceSide {
-            depth,
-            normal: column.normal,
-            wave,
-        };
-        Edge {
-            side,
-            along: column.along,
-        }
-    }
+        (column.normal, column.along)
+    };
+    let side = FaceSide {
+        depth,
+        normal,
+        wave: root(depth),
+    };
+    Edge { side, along }
 }
 
 // How far the surface of a column stands above a bed.
@@ -51,23 +43,22 @@ fn edge_above(bed: i32, column: Column) -> Edge
     requires { column.bed ≤ℤ bed }
     ensures { edge_seen result ≡ above bed (column_of column) }
 {
-    let depth = positive_part(rise_over(bed, column));
-    edge_of(depth, column)
+    edge_of(positive_part(rise_over(bed, column)), column)
 }
 
 // Two columns meet at the higher bed.
-fn meeting(left: Column, right: Column) -> Face
+fn meeting(left: Column, right: Column) -> Edges
     ensures { face_seen result ≡ meet (column_of left) (column_of right) }
 {
     let bed = left.bed.max(right.bed);
-    Face {
+    Edges {
         left: edge_above(bed, left),
         right: edge_above(bed, right),
     }
 }
 
 // The face to the given hand between a cell's own column and the one beyond.
-pub(crate) fn face_between(hand: Hand, own: Column, far: Column) -> Face
+pub(crate) fn face_between(hand: Hand, own: Column, far: Column) -> Edges
     ensures { face_seen result ≡ face_of hand (column_of own) (column_of far) }
 {
     match hand {

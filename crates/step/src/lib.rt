@@ -8,3 +8,4 @@ mod edge;
 mod edges;
 mod numbers;
 mod places;
+mod spot;

@@ -7,5 +7,5 @@ pub(crate) fn positive_part(number: i64) -> u32
     requires { positive number < 2 ^ 32 }
     ensures { result ≡ positive number }
 {
-    if number > 0 { number as u32 } else { 0 }
+    number.max(0) as u32
 }

@@ -3,113 +3,79 @@ ghost use Rattle.std.specs.Prelude.{◌≡◌, ◌+◌, ◌*◌, ◌<◌, length
 ghost use Rattle.book.specs.Sheets.{cell_at, side_at, neighbour as neighbour_place, beyond as beyond_place, face};
 ghost use Rattle.sheet.specs.Tables.{lake_table};
 ghost use Rattle.step.specs.Columns.{column_of, face_seen};
-ghost use Rattle.step.specs.Places.{OnLake, placed};
+ghost use Rattle.step.specs.Places.{Found, placed, at_spot};
 
 use crate::column::Column;
 use crate::columns::{column_to, ghost_beyond};
-use crate::edge::Face;
+use crate::edge::Edges;
 use crate::edges::face_between;
+use crate::spot::Spot;
 use book::side::{Hand, Side};
 use sheet::lake::Lake;
-use sheet::place::Place;
 use sheet::water::Water;
 
-// The number of a place, row by row.
-pub(crate) fn number_of(lake: &Lake, place: Place) -> usize
-    requires { OnLake lake.now place }
-    ensures value { result ≡ place.row * lake.now.columns + place.column }
-    ensures bound { result < length lake.now.cells.items }
-{
-    place.row * lake.columns + place.column
-}
-
-// The water at a place.
-pub(crate) fn water_at(lake: &Lake, place: Place) -> Water
-    requires { OnLake lake.now place }
-    ensures { result.cell ≡ cell_at (lake_table lake.now) place.row place.column }
-{
-    lake.cells[number_of(lake, place)]
-}
-
 // What stands to a hand of the lake.
-pub(crate) fn side_to(lake: &Lake, hand: Hand) -> Side
+fn side_to(lake: &Lake, hand: Hand) -> Side
     ensures { result ≡ side_at (lake_table lake.now) hand }
 {
-    match hand {
-        Hand::West => lake.sides[0],
-        Hand::East => lake.sides[1],
-        Hand::South => lake.sides[2],
-        Hand::North => lake.sides[3],
-    }
+    lake.sides[hand as usize]
 }
 
-// The place next to a place; absent at the edge.
-pub(crate) fn neighbour(lake: &Lake, place: Place, hand: Hand) -> Option<Place>
-    requires { OnLake lake.now place }
-    ensures value { placed result ≡ neighbour_place (lake_table lake.now) place.row place.column hand }
-    ensures within { IfSome result (λ next. OnLake lake.now next) }
-{
-    let Place { row, column } = place;
-    match hand {
-        Hand::West => {
-            if column == 0 {
-                None
-            } else {
-                Some(Place {
-                    row,
-                    column: column - 1,
-                })
-            }
-        }
-        Hand::East => {
-            if column + 1 < lake.columns {
-                Some(Place {
-                    row,
-                    column: column + 1,
-                })
-            } else {
-                None
-            }
-        }
-        Hand::South => {
-            if row == 0 {
-                None
-            } else {
-                Some(Place {
-                    row: row - 1,
-                    column,
-                })
-            }
-        }
-        Hand::North => {
-            if row + 1 < lake.rows {
-                Some(Place {
-                    row: row + 1,
-                    column,
-                })
-            } else {
-                None
-            }
+impl<'a> Spot<'a> {
+    // The place in that row and column, where the lake has one.
+    pub(crate) fn at(lake: &'a Lake, row: usize, column: usize) -> Option<Spot<'a>>
+        ensures { Found lake.now row column result }
+    {
+        if row < lake.rows && column < lake.columns {
+            Some(Spot { lake, row, column })
+        } else {
+            None
         }
     }
-}
 
-// What lies beyond a place to the given hand: its neighbour, or the ghost beyond that side.
-fn beyond(lake: &Lake, place: Place, hand: Hand) -> Column
-    requires { OnLake lake.now place }
-    ensures { column_of result ≡ beyond_place (lake_table lake.now) place.row place.column hand }
-{
-    match neighbour(lake, place, hand) {
-        Some(next) => column_to(hand, water_at(lake, next)),
-        None => ghost_beyond(side_to(lake, hand), hand, water_at(lake, place)),
+    // Its number, row by row.
+    pub(crate) fn number(self) -> usize
+        ensures value { result ≡ self.entry.row * self.entry.lake.now.columns + self.entry.column }
+        ensures bound { result < length self.entry.lake.now.cells.items }
+    {
+        self.row * self.lake.columns + self.column
     }
-}
 
-// The face of a place to the given hand.
-pub(crate) fn face_at(lake: &Lake, place: Place, hand: Hand) -> Face
-    requires { OnLake lake.now place }
-    ensures { face_seen result ≡ face (lake_table lake.now) place.row place.column hand }
-{
-    let own = column_to(hand, water_at(lake, place));
-    face_between(hand, own, beyond(lake, place, hand))
+    // The water there.
+    pub(crate) fn water(self) -> Water
+        ensures { result.cell ≡ at_spot cell_at self.entry }
+    {
+        self.lake.cells[self.number()]
+    }
+
+    // The place next to it; absent at the edge.
+    pub(crate) fn neighbour(self, hand: Hand) -> Option<Spot<'a>>
+        ensures value { placed result ≡ at_spot neighbour_place self.entry hand }
+        ensures lake { IfSome result (λ next. next.lake.now ≡ self.entry.lake.now) }
+    {
+        let (row, column) = match hand {
+            Hand::West => (self.row, self.column.checked_sub(1)?),
+            Hand::East => (self.row, self.column + 1),
+            Hand::South => (self.row.checked_sub(1)?, self.column),
+            Hand::North => (self.row + 1, self.column),
+        };
+        Spot::at(self.lake, row, column)
+    }
+
+    // What lies beyond it to the given hand: its neighbour, or the ghost beyond that side.
+    fn beyond(self, hand: Hand) -> Column
+        ensures { column_of result ≡ at_spot beyond_place self.entry hand }
+    {
+        match self.neighbour(hand) {
+            Some(next) => column_to(hand, next.water()),
+            None => ghost_beyond(side_to(self.lake, hand), hand, self.water()),
+        }
+    }
+
+    // The face to the given hand.
+    pub(crate) fn face(self, hand: Hand) -> Edges
+        ensures { face_seen result ≡ at_spot face self.entry hand }
+    {
+        face_between(hand, column_to(hand, self.water()), self.beyond(hand))
+    }
 }

@@ -14,4 +14,4 @@ overflow_mul-result-2 c = fits (product c) (lit< tt)
 pub returns : goal.returns
 returns c =
     let p = store (product c) (lit< tt) in
-    record { value = p.is; bound = omega (arith, p.near, mathlib.Core.Path.ap lib.IntN.nat_abs p.is) }
+    record { value = p.is; bound = rw p.is (omega (arith, p.near)) }

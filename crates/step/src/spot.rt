@@ -1,0 +1,14 @@
+// A place that is on a lake.
+ghost use Rattle.std.specs.Prelude.{◌<◌};
+
+use sheet::lake::Lake;
+
+// With the lake that it is on.
+#[derive(Clone, Copy)]
+pub(crate) struct Spot<'a> {
+    pub lake: &'a Lake,
+    pub row: usize,
+    pub column: usize,
+    ghost high: { row < lake.now.rows },
+    ghost broad: { column < lake.now.columns },
+}
