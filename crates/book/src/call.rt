@@ -1,6 +1,6 @@
 // What can be asked of a sheet, with its arguments as they come, in range or not.
 
-#[derive(Clone, Copy, Debug, PartialEq, Eq)]
+#[derive(Clone, Copy, PartialEq, Eq)]
 pub enum Call {
     // A new sheet of cells of this width, in mm.
     Prepare {

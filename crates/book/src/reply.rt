@@ -3,7 +3,7 @@ use crate::account::Account;
 use crate::cell::Cell;
 use crate::refusal::Refusal;
 
-#[derive(Clone, Copy, Debug, PartialEq, Eq)]
+#[derive(Clone, Copy, PartialEq, Eq)]
 pub enum Reply {
     Done,
     Refused { why: Refusal },

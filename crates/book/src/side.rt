@@ -1,7 +1,7 @@
 // The four hands, and what stands beyond a side of the sheet.
 
 // A direction from a cell, and the side of the sheet that lies there.
-#[derive(Clone, Copy, Debug, PartialEq, Eq)]
+#[derive(Clone, Copy, PartialEq, Eq)]
 pub enum Hand {
     West,
     East,
@@ -10,7 +10,7 @@ pub enum Hand {
 }
 
 // A wall, open water that goes on as it is inside, water held at a level, or a stream that is fed into the sheet.
-#[derive(Clone, Copy, Debug, PartialEq, Eq)]
+#[derive(Clone, Copy, PartialEq, Eq)]
 pub enum Side {
     Wall,
     Open,

@@ -18,7 +18,7 @@ use rules::root::root;
 use std::error::Error;
 use std::fmt;
 
-#[derive(Clone, Copy, Debug, PartialEq, Eq)]
+#[derive(Clone, Copy)]
 pub enum Answer {
     Wave { speed: u32 },
     Passed { flux: Flux },

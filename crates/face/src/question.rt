@@ -5,14 +5,14 @@ use rules::friction::stream::Stream;
 use rules::friction::weed::Weed;
 
 // One side of a face as it is read.
-#[derive(Clone, Copy, Debug, PartialEq, Eq)]
+#[derive(Clone, Copy)]
 pub struct AskedSide {
     pub depth: i64,
     pub velocity: i64,
 }
 
 // What a friction rule is to be given, as it is read.
-#[derive(Clone, Copy, Debug, PartialEq, Eq)]
+#[derive(Clone, Copy)]
 pub struct AskedStream {
     pub flow: i64,
     pub speed: i64,
@@ -21,7 +21,7 @@ pub struct AskedStream {
 }
 
 // A question as it is read.
-#[derive(Clone, Copy, Debug, PartialEq, Eq)]
+#[derive(Clone, Copy)]
 pub enum Asked {
     Root {
         depth: i64,
@@ -42,14 +42,14 @@ pub enum Asked {
     },
 }
 
-#[derive(Clone, Copy, Debug, PartialEq, Eq)]
+#[derive(Clone, Copy)]
 pub enum FluxName {
     Rusanov,
     Hll,
 }
 
 // A question whose numbers are in range.
-#[derive(Clone, Copy, Debug, PartialEq, Eq)]
+#[derive(Clone, Copy)]
 pub enum Question {
     Root { depth: u32 },
     Flux { name: FluxName, face: Face },

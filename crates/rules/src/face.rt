@@ -7,7 +7,7 @@ ghost use Rattle.rules.specs.Face.{of_face};
 use crate::side::FaceSide;
 
 // Its two sides: the left is the west or the south.
-#[derive(Clone, Copy, Debug, PartialEq, Eq)]
+#[derive(Clone, Copy)]
 pub struct Face {
     pub left: FaceSide,
     pub right: FaceSide,

@@ -35,7 +35,7 @@ impl fmt::Display for SideFault {
 impl Error for SideFault {}
 
 // The depth of the water above the higher of the two beds, its velocity across the face, and its wave speed.
-#[derive(Clone, Copy, Debug, PartialEq, Eq)]
+#[derive(Clone, Copy)]
 pub struct FaceSide {
     pub depth: u32,
     pub normal: i32,

@@ -3,7 +3,7 @@ ghost use Rattle.std.specs.Prelude.{◌≡◌, ◌^◌, ◌≤◌, ℤ, pos, ◌
 
 // The water that passes from left to right, the push and the flow that is carried along, and the depths of the two sides.
 // No side gives more than a quarter of its water.
-#[derive(Clone, Copy, Debug, PartialEq, Eq)]
+#[derive(Clone, Copy)]
 pub struct Crossing {
     pub water: i64,
     pub push: i64,

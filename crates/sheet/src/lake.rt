@@ -8,7 +8,7 @@ use book::side::Side;
 
 // Cells row by row from the south-west in one `Vec`, so that a step goes over them in one loop, and the sides as an array in
 // the order of their numbers, which a turn permutes.
-#[derive(Debug, Drop)]
+#[derive(Drop)]
 pub struct Lake {
     pub rows: usize,
     pub columns: usize,

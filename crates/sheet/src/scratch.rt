@@ -8,7 +8,7 @@ use crate::water::Water;
 use std::alloc::{AllocError, Global};
 
 // What crosses the western and the southern face of a cell.
-#[derive(Clone, Copy, Debug, PartialEq, Eq)]
+#[derive(Clone, Copy)]
 pub struct OwnFaces {
     pub west: Crossing,
     pub south: Crossing,
@@ -16,7 +16,7 @@ pub struct OwnFaces {
 
 // The cells that a step makes, and what crosses the faces of each cell, the eastern faces of the last column and the
 // northern faces of the last row.
-#[derive(Debug, Drop)]
+#[derive(Drop)]
 pub struct Scratch {
     pub cells: Vec<Water>,
     pub faces: Vec<OwnFaces>,

@@ -4,7 +4,7 @@ ghost use Rattle.std.specs.Prelude.{◌≡◌, ◌*◌, length};
 use crate::lake::Lake;
 use crate::scratch::Scratch;
 
-#[derive(Debug, Drop)]
+#[derive(Drop)]
 pub struct Sheet {
     pub lake: Lake,
     pub scratch: Scratch,

@@ -6,7 +6,7 @@ ghost use Rattle.book.specs.Sheets.{no_cell};
 use book::cell::Cell;
 
 // A cell with its velocities to the east and to the north, in mm/s.
-#[derive(Clone, Copy, Debug, PartialEq, Eq)]
+#[derive(Clone, Copy)]
 pub struct Water {
     pub cell: Cell,
     pub east: i32,

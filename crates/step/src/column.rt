@@ -2,7 +2,7 @@
 ghost use Rattle.std.specs.Prelude.{◌≤◌, unsigned_abs};
 
 // Over a bed, with its velocity across the face and along it.
-#[derive(Clone, Copy, Debug, PartialEq, Eq)]
+#[derive(Clone, Copy)]
 pub(crate) struct Column {
     pub bed: i32,
     pub depth: u32,

@@ -4,7 +4,7 @@ ghost use Rattle.std.specs.Prelude.{◌≤◌, unsigned_abs};
 use rules::side::FaceSide;
 
 // One side of it.
-#[derive(Clone, Copy, Debug, PartialEq, Eq)]
+#[derive(Clone, Copy)]
 pub(crate) struct Edge {
     pub side: FaceSide,
     pub along: i32,
@@ -12,7 +12,7 @@ pub(crate) struct Edge {
 }
 
 // Both: the left is the west or the south.
-#[derive(Clone, Copy, Debug, PartialEq, Eq)]
+#[derive(Clone, Copy)]
 pub(crate) struct Edges {
     pub left: Edge,
     pub right: Edge,

@@ -8,7 +8,7 @@ use crate::face::Face;
 use crate::flux::{Flux, FluxRule};
 use crate::side::FaceSide;
 
-#[derive(Clone, Copy, Debug, PartialEq, Eq)]
+#[derive(Clone, Copy)]
 pub struct Hll;
 
 impl FluxRule for Hll {

@@ -5,7 +5,7 @@ ghost use Rattle.rules.specs.Rusanovs.{rusanov_lawful};
 use crate::face::Face;
 use crate::flux::{Flux, FluxRule};
 
-#[derive(Clone, Copy, Debug, PartialEq, Eq)]
+#[derive(Clone, Copy)]
 pub struct Rusanov;
 
 impl FluxRule for Rusanov {

@@ -11,7 +11,7 @@ use crate::refusal::RuleRefusal;
 // The greatest coefficient, in thousandths.
 pub const MAX_COEFFICIENT: u32 = 1000;
 
-#[derive(Clone, Copy, Debug, PartialEq, Eq)]
+#[derive(Clone, Copy)]
 pub struct BareBed {
     coefficient: u32,
     ghost small: { coefficient ≤ 1000 },

@@ -3,7 +3,7 @@ ghost use Rattle.std.specs.Prelude.{◌≤◌, unsigned_abs};
 
 // A flow, the speed before the step, the depth after it and the rate in steps a second, in the ranges in which every
 // rule answers.
-#[derive(Clone, Copy, Debug, PartialEq, Eq)]
+#[derive(Clone, Copy)]
 pub struct Stream {
     pub flow: i64,
     pub speed: u32,

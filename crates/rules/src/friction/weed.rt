@@ -12,13 +12,13 @@ use crate::refusal::RuleRefusal;
 pub const MAX_STRENGTH: u32 = 1_000_000_000;
 
 // How much the weed takes of every flow, as a type of its own: a generic struct with a ghost field derives no `Clone`.
-#[derive(Clone, Copy, Debug, PartialEq, Eq)]
+#[derive(Clone, Copy)]
 struct Strength {
     value: u32,
     ghost small: { value ≤ 1000000000 },
 }
 
-#[derive(Clone, Copy, Debug, PartialEq, Eq)]
+#[derive(Clone, Copy)]
 pub struct Weed<R> {
     strength: Strength,
     over: R,
