@@ -37,11 +37,13 @@ pub(crate) fn answer_line(line: &str) -> Result<Answer, Unanswered<'_>> {
     Ok(reply(check(read(line)?)?))
 }
 
-fn reply(question: Question) -> Answer
+pub(crate) fn reply(question: Question) -> Answer
     ensures { result ≡ answer_to question }
 {
     match question {
         Question::Root { depth } => Answer::Wave { speed: root(depth) },
+        // Which rule answers is known from the line alone. A `match` hands a value of its own type to the generic function;
+        // a `dyn` or a function pointer would have to be made here, and handed on.
         Question::Flux { name, face } => match name {
             FluxName::Rusanov => passed(&Rusanov, face),
             FluxName::Hll => passed(&Hll, face),

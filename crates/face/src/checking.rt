@@ -34,18 +34,18 @@ pub(crate) fn check(asked: Asked) -> Result<Question, OutOfRange>
         }
         Asked::Bare {
             coefficient,
-            stream,
+            stream: asked,
         } => Ok(Question::Bare {
             bed: bed(coefficient)?,
-            stream: checked_stream(stream)?,
+            stream: stream(asked)?,
         }),
         Asked::Weed {
             strength,
             coefficient,
-            stream,
+            stream: asked,
         } => Ok(Question::Weed {
             weed: weed(strength, coefficient)?,
-            stream: checked_stream(stream)?,
+            stream: stream(asked)?,
         }),
     }
 }
@@ -74,7 +74,7 @@ fn side(bank: Bank, asked: AskedSide) -> Result<FaceSide, OutOfRange>
 }
 
 #[tactic(auto, unfolding(crate::specs::Checks::stream_fault))]
-fn checked_stream(asked: AskedStream) -> Result<Stream, OutOfRange>
+fn stream(asked: AskedStream) -> Result<Stream, OutOfRange>
     ensures { FirstFault (stream_fault asked) (λ stream. plain_stream stream ≡ asked) result }
 {
     Ok(Stream {

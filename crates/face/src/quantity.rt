@@ -82,7 +82,8 @@ impl Quantity {
         }
     }
 
-    // The same of a quantity that 32 bits hold.
+    // The same of a quantity that 32 bits hold: `as` is proved to lose nothing, where `try_from` would have an error that
+    // cannot come.
     pub(crate) fn natural(self, value: i64) -> Result<u32, OutOfRange>
         requires low { pos 0 ≤ℤ least_of self }
         requires high { greatest_of self ≤ℤ pos 4294967295 }

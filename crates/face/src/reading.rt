@@ -54,17 +54,17 @@ fn asked<'a>(words: &mut SplitWhitespace<'a>) -> Result<Asked, Unreadable<'a>> {
         }),
         "flux" => Ok(Asked::Flux {
             number: number(words, Quantity::FluxNumber)?,
-            left: side(words, Bank::Left)?,
-            right: side(words, Bank::Right)?,
+            left: read_side(words, Bank::Left)?,
+            right: read_side(words, Bank::Right)?,
         }),
         "bare" => Ok(Asked::Bare {
             coefficient: number(words, Quantity::Coefficient)?,
-            stream: stream(words)?,
+            stream: read_stream(words)?,
         }),
         "weed" => Ok(Asked::Weed {
             strength: number(words, Quantity::Strength)?,
             coefficient: number(words, Quantity::Coefficient)?,
-            stream: stream(words)?,
+            stream: read_stream(words)?,
         }),
         word => Err(Unreadable::Unknown { word }),
     }
@@ -76,14 +76,14 @@ fn number<'a>(words: &mut SplitWhitespace<'a>, quantity: Quantity) -> Result<i64
         .map_err(|_| Unreadable::NoNumber { quantity, word })
 }
 
-fn side<'a>(words: &mut SplitWhitespace<'a>, bank: Bank) -> Result<AskedSide, Unreadable<'a>> {
+fn read_side<'a>(words: &mut SplitWhitespace<'a>, bank: Bank) -> Result<AskedSide, Unreadable<'a>> {
     Ok(AskedSide {
         depth: number(words, Quantity::SideDepth { bank })?,
         velocity: number(words, Quantity::SideVelocity { bank })?,
     })
 }
 
-fn stream<'a>(words: &mut SplitWhitespace<'a>) -> Result<AskedStream, Unreadable<'a>> {
+fn read_stream<'a>(words: &mut SplitWhitespace<'a>) -> Result<AskedStream, Unreadable<'a>> {
     Ok(AskedStream {
         flow: number(words, Quantity::Flow)?,
         speed: number(words, Quantity::Speed)?,

@@ -5,15 +5,15 @@ use Rattle.std.proofs.lemmas.Int.{ints, clamps}
 use Rattle.rules.specs.Side.{Facing, pace_of, face_pace, discharge, momentum}
 use Rattle.rules.specs.Flux.{LawfulFlux}
 use Rattle.rules.specs.Hll.{Apart, slow_wave, fast_wave, slowest, fastest, by_waves, fan_water, fan_push, hll_water, hll_push}
-use Rattle.rules.specs.Sides.{discharge_near, momentum_near, face_near, paced, discharge_reversed, momentum_reversed, pace_exchanged}
+use Rattle.rules.specs.Sides.{discharge_near, momentum_near, face_near, paced, discharge_reversed, momentum_reversed, slow_reversed, fast_reversed, pace_exchanged}
 use Rattle.rules.specs.Roots.{root_least}
 use Rattle.rules.specs.Fans.{fan_le, fan_even, fan_exchanged, fan_push_near, fan_push_even, fan_push_exchanged}
 
 -- ---- the waves of a face
 module _ (dl : ℕ) (nl : ℤ) (dr : ℕ) (nr : ℤ) where
   waves_exchanged : (slowest dr (neg_ℤ nr) dl (neg_ℤ nl) ≡ neg_ℤ (fastest dl nl dr nr)) × (fastest dr (neg_ℤ nr) dl (neg_ℤ nl) ≡ neg_ℤ (slowest dl nl dr nr))
-  unfolding slowest fastest slow_wave fast_wave
-  waves_exchanged = omega (arith, ints, clamps)
+  unfolding slowest fastest
+  waves_exchanged = simp (slow_reversed, fast_reversed) (omega (arith, ints, clamps))
 
   between : (slowest dl nl dr nr ≤ℤ nl) × (nl ≤ℤ fastest dl nl dr nr) × (nr ≤ℤ fastest dl nl dr nr)
   unfolding slowest fastest slow_wave fast_wave

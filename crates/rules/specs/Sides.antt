@@ -7,6 +7,7 @@ use Rattle.std.proofs.lemmas.Int.{ints}
 use Rattle.rules.specs.declared.side.FaceSide.{FaceSide}
 use Rattle.rules.specs.Root.{root_of}
 use Rattle.rules.specs.Side.{Facing, pace_of, face_pace, discharge, momentum}
+use Rattle.rules.specs.Hll.{slow_wave, fast_wave}
 use Rattle.rules.specs.Ints.{near_mul, mul_neg}
 use Rattle.rules.specs.Roots.{root_least}
 use Rattle.rules.specs.Wide.{Wide, given, from32, store}
@@ -19,9 +20,13 @@ facing s = record { shallow = s.shallow; slow = s.slow; dry = s.dry }
 pub root_near : (d : ℕ) → d ≤ 2000000 → root_of d ≤ 14008
 root_near d h = grind (arith, (root_least d).least 14008)
 
+pub pace_near : (d : ℕ) (n : ℤ) → Facing d n → pace_of d n ≤ 24008
+unfolding pace_of
+pace_near d n r = omega (arith, root_near d r.shallow, r.slow)
+
 pub face_near : (dl : ℕ) (nl : ℤ) (dr : ℕ) (nr : ℤ) → Facing dl nl → Facing dr nr → face_pace dl nl dr nr ≤ 24008
-unfolding face_pace pace_of
-face_near dl nl dr nr p q = omega (arith, root_near dl p.shallow, root_near dr q.shallow)
+unfolding face_pace
+face_near dl nl dr nr p q = omega (arith, pace_near dl nl p, pace_near dr nr q)
 
 pub discharge_near : (d : ℕ) (n : ℤ) → Facing d n → unsigned_abs (discharge d n) ≤ 20000000000
 unfolding discharge
@@ -49,6 +54,14 @@ discharge_reversed d n = mul_neg (pos d) n
 pub momentum_reversed : (d : ℕ) (n : ℤ) → momentum d (neg_ℤ n) ≡ momentum d n
 unfolding momentum
 momentum_reversed d n = grind (arith, ints)
+
+pub slow_reversed : (d : ℕ) (n : ℤ) → slow_wave d (neg_ℤ n) ≡ neg_ℤ (fast_wave d n)
+unfolding slow_wave fast_wave
+slow_reversed d n = omega (arith, ints)
+
+pub fast_reversed : (d : ℕ) (n : ℤ) → fast_wave d (neg_ℤ n) ≡ neg_ℤ (slow_wave d n)
+unfolding slow_wave fast_wave
+fast_reversed d n = omega (arith, ints)
 
 pub pace_exchanged : (dl : ℕ) (nl : ℤ) (dr : ℕ) (nr : ℤ) → face_pace dr (neg_ℤ nr) dl (neg_ℤ nl) ≡ face_pace dl nl dr nr
 unfolding face_pace pace_of

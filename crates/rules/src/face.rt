@@ -31,7 +31,7 @@ impl Face {
         self.left.slow_wave().min(self.right.slow_wave())
     }
 
-    // The fastest wave from the face.
+    // The fastest wave from the face: the other wave and the other bound, so that one method would take two closures.
     #[tactic(auto, unfolding(crate::specs::Hll::fastest))]
     pub(crate) fn fastest_wave(self) -> i64
         ensures { result ≡ of_face fastest self }

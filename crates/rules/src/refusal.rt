@@ -11,7 +11,7 @@ pub enum RuleRefusal {
 }
 
 impl RuleRefusal {
-    // The number of this refusal: one for all that can be wrong with a rule.
+    // The number of this refusal: one for all that can be wrong with a rule, so that the cases' own numbers are no use.
     pub fn number(self) -> u8
         ensures { result ≡ 8 }
     {

@@ -83,7 +83,7 @@ impl FaceSide {
         i64::from(self.normal) - i64::from(self.wave)
     }
 
-    // The faster wave of this side.
+    // The faster wave of this side. One method for both would take the sign, and each caller would write it.
     #[tactic(auto, unfolding(crate::specs::Hll::fast_wave))]
     pub fn fast_wave(self) -> i64
         ensures { result ≡ fast_wave self.depth self.normal }

@@ -25,7 +25,8 @@ pub struct Scratch {
 }
 
 impl Scratch {
-    // For a sheet of so many rows, columns and cells; its cells are not laid, and nothing has crossed its faces.
+    // For a sheet of so many rows, columns and cells; its cells are not laid, and nothing has crossed its faces. Three
+    // numbers of any size, since a type with a sheet's limits would ask more of callers.
     pub fn new(
         heap: Global,
         rows: usize,

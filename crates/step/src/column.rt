@@ -1,7 +1,8 @@
 // The water of a cell as a face sees it, in range.
 ghost use Rattle.std.specs.Prelude.{◌≤◌, unsigned_abs};
 
-// Over a bed, with its velocity across the face and along it.
+// Over a bed, with its velocity across the face and along it. Depths and velocities are plain numbers with ghost fields
+// for their ranges, here and in sides, cells and crossings: as types of their own they would be opened in every formula.
 #[derive(Clone, Copy)]
 pub(crate) struct Column {
     pub bed: i32,

@@ -27,7 +27,7 @@ pub(crate) fn column_to(hand: Hand, water: Water) -> Column
     }
 }
 
-// The water of a cell as a wall throws it back.
+// The water of a cell as a wall throws it back. A literal with ghost fields takes no `..`, so a copy is changed.
 fn reversed(inner: Column) -> Column
     ensures { column_of result ≡ ghost_column Wall West (column_of inner) }
 {

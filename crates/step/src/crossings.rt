@@ -31,7 +31,8 @@ impl Edges {
         span < 4 * self.face().pace()
     }
 
-    // The flow along the face that the water carries over, which is that of the side it leaves.
+    // The flow along the face that the water carries over, which is that of the side it leaves: one function of two
+    // values, with nothing to choose by a closure.
     fn carried(self, water: i64) -> i64
         requires { unsigned_abs water ≤ 48016000000 }
         ensures value { (rules : Rules) → water ≡ water_over rules (face_seen self) → result ≡ carried_over rules (face_seen self) }

@@ -15,7 +15,7 @@ use sheet::lake::Lake;
 use sheet::water::Water;
 
 // What stands to a hand of the lake.
-fn side_to(lake: &Lake, hand: Hand) -> Side
+pub(crate) fn side_to(lake: &Lake, hand: Hand) -> Side
     ensures { result ≡ side_at (lake_table lake.now) hand }
 {
     lake.sides[hand as usize]

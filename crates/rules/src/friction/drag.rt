@@ -2,7 +2,7 @@
 ghost use Rattle.std.specs.Prelude.{◌≡◌, ◌+◌, ◌*◌, ◌^◌, ◌<◌, ◌≤◌, unsigned_abs};
 ghost use Rattle.rules.specs.Drag.{with_size, dragged};
 
-// The number of the given size with the sign of `flow`.
+// The number of the given size with the sign of `flow`. The library has this of floats alone, and `signum` has no sign at 0.
 pub(crate) fn with_size(flow: i64, size: u64) -> i64
     requires { size < 2 ^ 63 }
     ensures { result ≡ with_size flow size }
