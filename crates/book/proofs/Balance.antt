@@ -6,7 +6,7 @@ use Rattle.book.specs.declared.side.Hand.{Hand}
 use Rattle.book.specs.declared.side.Hand.TheVariants.{West, East, South, North}
 use Rattle.book.specs.declared.account.Account.{Account}
 use Rattle.book.specs.declared.call.Call.{Call}
-use Rattle.book.specs.declared.call.Call.TheVariants.{Prepare, Lay, Open as Opening, Step, Rain, Soak, ChangeSide, AskCell, AskAccount, AskStanding, AskSlowestRate, Close}
+use Rattle.book.specs.declared.call.Call.TheVariants.{Open as Opening, Step, Rain, Soak, AskCell, AskAccount, AskStanding, AskSlowestRate}
 use Rattle.rules.specs.Flux.{LawfulFlux}
 use Rattle.rules.specs.Friction.{LawfulFriction}
 use Rattle.book.specs.Numbers.{positive, trunc}
@@ -112,18 +112,15 @@ module _ (rules : Rules) (flux : LawfulFlux rules.water rules.push) (t : Table) 
 
 module _ (rules : Rules) (flux : LawfulFlux rules.water rules.push) (friction : LawfulFriction rules.slowed) where
   accepted_balanced : (b : Book) (x : Call) → BalancedBook b → SoundAt (stage_of x) b.table → BalancedAt (stage_of x) b.table b.account → NoneThere (faults rules b x) → BalancedBook (accepted rules b x).book
-  accepted_balanced b (Prepare rows columns width) h s g n = tt
-  accepted_balanced b (Lay row column bed depth) h s g n = tt
   accepted_balanced b Opening h s g n = let e = standing_map b.table s.0 at_rest in omega arith
   accepted_balanced b (Step rate) h s g n = step_balanced rules flux b.table s rate n.1.0 b.account g
   accepted_balanced b (Rain amount) h s g n = rain_balanced b.table s b.account amount g
   accepted_balanced b (Soak amount) h s g n = soak_balanced b.table s b.account amount g
-  accepted_balanced b (ChangeSide side kind x y) h s g n = g
   accepted_balanced b (AskCell row column) h s g n = h
   accepted_balanced b AskAccount h s g n = h
   accepted_balanced b AskStanding h s g n = h
   accepted_balanced b AskSlowestRate h s g n = h
-  accepted_balanced b Close h s g n = g
+  accepted_balanced b x h s g n = g
 
   answer_balanced : (b : Book) (x : Call) → SoundBook b → BalancedBook b → BalancedBook (answer rules b x).book
   answer_balanced b x s h =

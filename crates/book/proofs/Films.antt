@@ -6,7 +6,7 @@ use Rattle.std.proofs.lemmas.Bool.{lt-ltb}
 use Rattle.rules.specs.Friction.{LawfulFriction}
 use Rattle.book.specs.declared.cell.Cell.{Cell}
 use Rattle.book.specs.declared.call.Call.{Call}
-use Rattle.book.specs.declared.call.Call.TheVariants.{Prepare, Lay, Open as Opening, Step, Rain, Soak, ChangeSide, AskCell, AskAccount, AskStanding, AskSlowestRate, Close}
+use Rattle.book.specs.declared.call.Call.TheVariants.{Prepare, Lay, Open as Opening, Step, Rain, Soak}
 use Rattle.book.specs.Numbers.{film, thinned}
 use Rattle.book.specs.Step.{Rules}
 use Rattle.book.specs.Sheets.{cell_at, no_cell}
@@ -51,12 +51,7 @@ module _ (rules : Rules) where
       All-map Thin _ b.table.cells
       (All-weaker Thin _ (λ k t. record { east = λ l. t.east (omega arith); north = λ l. t.north (omega arith) }) b.table.cells h)
   accepted_thin b (Soak amount) h = all_mapped _ b.table.cells (λ k. record { east = thinned_none _ _; north = thinned_none _ _ })
-  accepted_thin b (ChangeSide side kind x y) h = h
-  accepted_thin b (AskCell row column) h = h
-  accepted_thin b AskAccount h = h
-  accepted_thin b AskStanding h = h
-  accepted_thin b AskSlowestRate h = h
-  accepted_thin b Close h = h
+  accepted_thin b x h = h
 
   after_thin : (b : Book) (calls : List Call) → AllThin b → AllThin (after rules b calls)
   after_thin b [] h = h

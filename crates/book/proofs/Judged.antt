@@ -1,8 +1,8 @@
 -- An answer is a refusal that leaves the book, or the page of a call that fits the stage and has no fault.
-use Rattle.std.proofs.Common.{◌≡◌, ℕ, zero, suc, true, false, not, List, [], ◌∷◌, sym, refl, ap, ◌∙◌, arith, lit<}
-use Rattle.std.proofs.lemmas.Bool.{both_ways, not-false, eqb-true, cond_both}
+use Rattle.std.proofs.Common.{◌≡◌, true, false, not, eqb, List, [], ◌∷◌, refl, lit<}
+use Rattle.std.proofs.lemmas.Bool.{both_ways, not-false, cond_both}
 use Rattle.book.specs.declared.call.Call.{Call}
-use Rattle.book.specs.declared.call.Call.TheVariants.{Prepare, Lay, Open as Opening, Step, Rain, Soak, ChangeSide, AskCell, AskAccount, AskStanding, AskSlowestRate, Close}
+use Rattle.book.specs.declared.call.Call.TheVariants.{Prepare, Lay, Step, Rain, Soak, ChangeSide}
 use Rattle.book.specs.declared.refusal.Refusal.{Refusal}
 use Rattle.book.specs.declared.refusal.Refusal.TheVariants.{OutOfStage}
 use Rattle.book.specs.declared.reply.Reply.TheVariants.{Done, Refused}
@@ -12,21 +12,15 @@ use Rattle.book.specs.Laws.{is_refusal, InOrder}
 
 -- ---- the stage
 
-stage_back : ℕ → Stage
-stage_back zero = start
-stage_back (suc zero) = preparing
-stage_back (suc (suc zero)) = serving
-stage_back (suc (suc (suc n))) = closed
-
-stage_there : (s : Stage) → stage_back (stage_number s) ≡ s
-unfolding stage_back
-stage_there start = refl
-stage_there preparing = refl
-stage_there serving = refl
-stage_there closed = refl
+one_stage : (s t : Stage) → eqb (stage_number s) (stage_number t) ≡ true → s ≡ t
+one_stage start start e = refl
+one_stage preparing preparing e = refl
+one_stage serving serving e = refl
+one_stage closed closed e = refl
+one_stage s t e = cc
 
 pub stage_is : (s : Stage) (x : Call) → fits s x ≡ true → s ≡ stage_of x
-stage_is s x e = sym (stage_there s) ∙ (ap stage_back (eqb-true (stage_number s) (stage_number (stage_of x)) e) ∙ stage_there (stage_of x))
+stage_is s x e = one_stage s (stage_of x) e
 
 -- ---- what an answer can be
 
@@ -48,41 +42,25 @@ module _ (rules : Rules) where
 
   -- a call that is done fits the stage and has no fault, and the book is what it makes of it
   pub answer_done : (b : Book) (x : Call) → (answer rules b x).reply ≡ Done → (b.stage ≡ stage_of x) × NoneThere (faults rules b x)
-  answer_done b x = answer_page (λ p. p.reply ≡ Done → (b.stage ≡ stage_of x) × NoneThere (faults rules b x)) b x (λ why e. let z : ◌≡◌ {A = ℕ} 0 1 = cc in absurd (omega arith)) (λ s n _. (s, n))
+  answer_done b x = answer_page (λ p. p.reply ≡ Done → (b.stage ≡ stage_of x) × NoneThere (faults rules b x)) b x (λ why e. cc) (λ s n _. (s, n))
 
   pub answer_accepted : (b : Book) (x : Call) → (answer rules b x).reply ≡ Done → (answer rules b x).book ≡ (accepted rules b x).book
-  answer_accepted b x = answer_page (λ p. p.reply ≡ Done → p.book ≡ (accepted rules b x).book) b x (λ why e. let z : ◌≡◌ {A = ℕ} 0 1 = cc in absurd (omega arith)) (λ _ _ _. refl)
+  answer_accepted b x = answer_page (λ p. p.reply ≡ Done → p.book ≡ (accepted rules b x).book) b x (λ why e. cc) (λ _ _ _. refl)
 
   -- ---- a refusal changes nothing
 
   accepts : (b : Book) (x : Call) → is_refusal (accepted rules b x).reply ≡ false
   accepts b (Prepare rows columns width) = refl
-  accepts b (Lay row column bed depth) = refl
-  accepts b Opening = refl
-  accepts b (Step rate) = refl
-  accepts b (Rain amount) = refl
-  accepts b (Soak amount) = refl
-  accepts b (ChangeSide side kind x y) = refl
-  accepts b (AskCell row column) = refl
-  accepts b AskAccount = refl
-  accepts b AskStanding = refl
-  accepts b AskSlowestRate = refl
-  accepts b Close = refl
+  accepts b x = refl
 
   pub refusal_leaves : (b : Book) (x : Call) → is_refusal (answer rules b x).reply ≡ true → (answer rules b x).book ≡ b
   refusal_leaves b x = answer_page (λ p. is_refusal p.reply ≡ true → p.book ≡ b) b x (λ _ _. refl) (λ _ _ e. absurd (both_ways (is_refusal (accepted rules b x).reply) (accepts b x) e))
 
   -- the faults stand in the order of their numbers
   pub in_order : (b : Book) (x : Call) → InOrder (faults rules b x)
-  in_order b (Prepare rows columns width) = tt
   in_order b (Lay row column bed depth) = (lit< tt, (lit< tt, tt))
-  in_order b Opening = tt
   in_order b (Step rate) = (lit< tt, (lit< tt, (lit< tt, tt)))
   in_order b (Rain amount) = (lit< tt, (lit< tt, tt))
   in_order b (Soak amount) = (lit< tt, tt)
   in_order b (ChangeSide side kind x y) = (lit< tt, tt)
-  in_order b (AskCell row column) = tt
-  in_order b AskAccount = tt
-  in_order b AskStanding = tt
-  in_order b AskSlowestRate = tt
-  in_order b Close = tt
+  in_order b x = tt

@@ -4,11 +4,11 @@ use Rattle.std.proofs.lemmas.List.{get_or-set_same, get_or-set_other, get_or-rep
 use Rattle.std.proofs.lemmas.Bool.{ltb-false, cases_eq, or_parts, true≢false}
 use Rattle.book.specs.declared.cell.Cell.{Cell}
 use Rattle.book.specs.declared.side.Hand.{Hand}
-use Rattle.book.specs.declared.side.Hand.TheVariants.{West, East, South, North}
+use Rattle.book.specs.declared.side.Hand.TheVariants.{West}
 use Rattle.book.specs.declared.side.Side.{Side}
 use Rattle.book.specs.declared.side.Side.TheVariants.{Wall, Open, Held, Fed}
 use Rattle.book.specs.declared.call.Call.{Call}
-use Rattle.book.specs.declared.call.Call.TheVariants.{Prepare, Lay, Open as Opening, Step, Rain, Soak, ChangeSide, AskCell, AskAccount, AskStanding, AskSlowestRate, Close}
+use Rattle.book.specs.declared.call.Call.TheVariants.{Prepare, Lay, Open as Opening, Step, Rain, Soak, ChangeSide, Close}
 use Rattle.book.specs.declared.reply.Reply.TheVariants.{Done}
 use Rattle.rules.specs.Flux.{LawfulFlux}
 use Rattle.rules.specs.Friction.{LawfulFriction}
@@ -30,10 +30,8 @@ use Rattle.book.proofs.Steps.{still_ranged, soaked_ranged, rained_ranged, new_ra
 -- ---- cells changed, beds kept
 
 ghost_bed : (s : Side) (k l : Cell) → k.bed ≡ l.bed → GhostKept s l → GhostKept s k
-ghost_bed Wall k l e h = tt
-ghost_bed Open k l e h = tt
 ghost_bed (Held a) k l e h = subst (λ z. held_depth a z ≤ max_depth) (sym e) h
-ghost_bed (Fed a b) k l e h = h
+ghost_bed s k l e h = h
 
 cells_sound : (t : Table) → Sound t → (cells : List Cell) → length cells ≡ t.rows * t.columns →
     ((r c : ℕ) → r < t.rows → c < t.columns → Ranged (cell_at (with_cells t cells) r c)) →
@@ -74,9 +72,7 @@ walled sides e hand k = subst (λ xs. GhostKept (get_or xs (side_number hand) Wa
   where
     by : (hand : Hand) → GhostKept (get_or four_walls (side_number hand) Wall) k
     by West = tt
-    by East = tt
-    by South = tt
-    by North = tt
+    by hand = tt
 
 -- a side that a call may set
 abbrev Allowed : Side → Type 0
@@ -103,10 +99,8 @@ module _ (t : Table) (sound : Sound t) (hand : Hand) (s : Side) (allowed : Allow
   -- the ghosts beyond the side that is set
   changed_ghosts : (s : Side) → Allowed s → (hand : Hand) → held_over t hand s ≡ false → (k : ℕ) → k < border_length t.rows t.columns hand →
       GhostKept s (border_cell t hand k)
-  changed_ghosts Wall a hand e k h = tt
-  changed_ghosts Open a hand e k h = tt
   changed_ghosts (Held a) _ hand e k h = ltb-false max_depth _ (none_below (border_length t.rows t.columns hand) _ e k h)
-  changed_ghosts (Fed a b) al hand e k h = al
+  changed_ghosts s al hand e k h = al
 
   set_ghosts : (other : Hand) (k : ℕ) → k < border_length t.rows t.columns other →
       GhostKept (get_or (set t.sides (side_number hand) s) (side_number other) Wall) (border_cell t other k)
@@ -173,11 +167,8 @@ module _ (rules : Rules) (friction : LawfulFriction rules.slowed) where
   accepted_sound b (Soak amount) h s n = map_sound b.table s (soaked amount) (λ k. refl) (λ r c p q. soaked_ranged amount (cell_at b.table r c) (s.ranged r c p q))
   accepted_sound b (ChangeSide side kind x y) h s n =
       change_sound b.table s (hand_of side) (side_of kind x y) (side_allowed kind x y (or_parts (ltb 3 side) (side_amiss kind x y) n.0).1) n.1.0
-  accepted_sound b (AskCell row column) h s n = h
-  accepted_sound b AskAccount h s n = h
-  accepted_sound b AskStanding h s n = h
-  accepted_sound b AskSlowestRate h s n = h
   accepted_sound b Close h s n = s
+  accepted_sound b x h s n = h
 
   pub answer_sound : (b : Book) (x : Call) → SoundBook b → SoundBook (answer rules b x).book
   answer_sound b x h = answer_book rules SoundBook b x h (λ e n. accepted_sound b x h (subst (λ s. SoundAt s b.table) e h) n)

@@ -1,16 +1,16 @@
 -- Still water stays as it is.
 use Rattle.std.proofs.Common.{◌≡◌, ℕ, ◌*◌, ◌<◌, ◌≤◌, true, false, ltb, ◌⊎◌, List, [], ◌∷◌, ℤ, pos, ◌+ℤ◌, ◌-ℤ◌, ◌*ℤ◌, neg_ℤ, Some, None, Option, sym, refl, ap, ◌∙◌, subst, inl, inr, arith}
 use Rattle.std.proofs.lemmas.Int.{ints}
-use Rattle.std.proofs.lemmas.Bool.{true≢false, false≢true, ltb-false, cond_both}
+use Rattle.std.proofs.lemmas.Bool.{false≢true, ltb-false, cond_both}
 use Rattle.book.specs.declared.cell.Cell.{Cell}
 use Rattle.book.specs.declared.side.Hand.{Hand}
 use Rattle.book.specs.declared.side.Hand.TheVariants.{West, East, South, North}
 use Rattle.book.specs.declared.side.Side.{Side}
-use Rattle.book.specs.declared.side.Side.TheVariants.{Wall, Open, Held, Fed}
+use Rattle.book.specs.declared.side.Side.TheVariants.{Wall, Fed}
 use Rattle.book.specs.declared.account.Passed.{Passed}
 use Rattle.book.specs.declared.account.Account.{Account}
 use Rattle.book.specs.declared.call.Call.{Call}
-use Rattle.book.specs.declared.call.Call.TheVariants.{Prepare, Lay, Open as Opening, Step, Rain, Soak, ChangeSide, AskCell, AskAccount, AskStanding, AskSlowestRate, Close}
+use Rattle.book.specs.declared.call.Call.TheVariants.{Step, AskCell, AskAccount, AskStanding, AskSlowestRate}
 use Rattle.rules.specs.Flux.{LawfulFlux}
 use Rattle.rules.specs.Friction.{LawfulFriction}
 use Rattle.rules.specs.Side.{Facing, discharge, momentum}
@@ -140,9 +140,8 @@ column_still North k e n = rw n (velocity_zero k.depth)
 
 ghost_still : (s : Side) (hand : Hand) (k : Column) → fed s ≡ false → k.normal ≡ pos 0 → (ghost s hand k).normal ≡ pos 0
 ghost_still Wall hand k u n = ap neg_ℤ n
-ghost_still Open hand k u n = n
-ghost_still (Held a) hand k u n = n
-ghost_still (Fed a b) hand k u n = absurd (true≢false u)
+ghost_still (Fed a b) hand k u n = cc
+ghost_still s hand k u n = n
 
 side_still : (b : ℤ) (k : Column) → k.normal ≡ pos 0 → (above b k).normal ≡ pos 0
 side_still b k n = rw n (where_wet_zero (above b k).depth)
@@ -191,22 +190,16 @@ module _ (rules : Rules) (flux : LawfulFlux rules.water rules.push) (friction : 
 
   module _ (b : Book) (serves : b.stage ≡ serving) (still : Still b.table) (sound : Sound b.table) where
     accepted_leaves : (x : Call) → step_or_question x ≡ true → NoneThere (faults rules b x) → (accepted rules b x).book ≡ b
-    accepted_leaves (Prepare rows columns width) e n = absurd (false≢true e)
-    accepted_leaves (Lay row column bed depth) e n = absurd (false≢true e)
-    accepted_leaves Opening e n = absurd (false≢true e)
     accepted_leaves (Step rate) e n =
         let w = inside 1 max_rate rate n.0 in
         let cells = same_cells b.table still sound rate w.0 w.1 in
         let account = same_account b.table still sound rate b.account in
         λ i. record { stage = sym serves i; table = with_cells b.table (cells i); account = account i }
-    accepted_leaves (Rain amount) e n = absurd (false≢true e)
-    accepted_leaves (Soak amount) e n = absurd (false≢true e)
-    accepted_leaves (ChangeSide side kind x y) e n = absurd (false≢true e)
     accepted_leaves (AskCell row column) e n = refl
     accepted_leaves AskAccount e n = refl
     accepted_leaves AskStanding e n = refl
     accepted_leaves AskSlowestRate e n = refl
-    accepted_leaves Close e n = absurd (false≢true e)
+    accepted_leaves x e n = absurd (false≢true e)
 
     quiet_leaves : (x : Call) → (step_or_question x ≡ true) ⊎ Refuses rules b x → (answer rules b x).book ≡ b
     quiet_leaves x (inl e) = answer_book rules (λ z. z ≡ b) b x refl (λ _ n. accepted_leaves x e n)

@@ -1,8 +1,8 @@
 -- One call: the turned book answers the turned call as the book answers the call, turned.
-use Rattle.std.proofs.Common.{◌≡◌, ℕ, ◌+◌, ◌*◌, ◌<◌, min, Bool, true, false, cond, not, ◌||◌, eqb, ltb, List, [], ◌∷◌, set, Some, None, sym, refl, ap, ◌∙◌, subst, ap₂, inl, inr, arith}
+use Rattle.std.proofs.Common.{◌≡◌, ℕ, ◌+◌, ◌*◌, ◌<◌, min, Bool, true, false, cond, not, ◌||◌, eqb, ltb, List, [], ◌∷◌, set, Some, None, sym, refl, ap, ◌∙◌, subst, ap₂, ⊎_elim}
 use Rattle.std.proofs.lemmas.Bool.{or_parts}
 use Rattle.book.specs.declared.call.Call.{Call}
-use Rattle.book.specs.declared.call.Call.TheVariants.{Prepare, Lay, Open as Opening, Step, Rain, Soak, ChangeSide, AskCell, AskAccount, AskStanding, AskSlowestRate, Close}
+use Rattle.book.specs.declared.call.Call.TheVariants.{Prepare, Lay, Open as Opening, Step, Rain, Soak, ChangeSide, AskCell, AskStanding, AskSlowestRate}
 use Rattle.book.specs.declared.refusal.Refusal.TheVariants.{OutOfStage}
 use Rattle.book.specs.declared.reply.Reply.TheVariants.{Done, Refused, CellIs, StandingIs, RateIs}
 use Rattle.rules.specs.Flux.{LawfulFlux}
@@ -12,7 +12,7 @@ use Rattle.book.specs.Ranges.{max_depth, max_rate}
 use Rattle.book.specs.Step.{Rules}
 use Rattle.book.specs.Sheets.{Place, cell_at, side_number, with_cells, with_sides, off_sheet, standing}
 use Rattle.book.specs.Accounts.{full, poured_only, rain_more, soak_more, account_after_step}
-use Rattle.book.specs.Calls.{Book, Stage, start, preparing, serving, Page, Fault, unchanged, on_page, soaked_away, fresh, at_rest, rained, soaked, hand_of, side_of, side_amiss, held_over, stage_of, stage_number, fits, judged, faults, accepted, answer, rained_on}
+use Rattle.book.specs.Calls.{Book, start, preparing, serving, Page, Fault, unchanged, on_page, soaked_away, fresh, at_rest, rained, soaked, hand_of, side_of, side_amiss, held_over, stage_of, stage_number, fits, judged, faults, accepted, answer, rained_on}
 use Rattle.book.specs.Turns.{turned_hand, turned_cell, turned_table, turned_account, turned_call, turned_asked, turned_reply, turned_book}
 use Rattle.book.proofs.Sound.{SoundAt, SoundBook}
 use Rattle.book.specs.Laws.{OfSize}
@@ -26,12 +26,6 @@ use Rattle.book.proofs.TurnedWords.{full_turned, poured_turned, rain_turned, soa
 
 abbrev pub turned_page : Turn → Page → Page
 turned_page τ p = record { book = turned_book τ p.book; reply = turned_reply τ p.reply }
-
-pub preparing_not : preparing ≡ start → ⊥
-preparing_not e = let z : ◌≡◌ {A = ℕ} 0 1 = cc in omega arith
-
-pub serving_not : serving ≡ start → ⊥
-serving_not e = let z : ◌≡◌ {A = ℕ} 0 1 = cc in omega arith
 
 -- ---- judged alike
 
@@ -109,11 +103,8 @@ module _ (rules : Rules) (flux : LawfulFlux rules.water rules.push) (friction : 
       λ _. tt,
     ),
   )
-  faults_turned (AskCell row column) s = tt
-  faults_turned AskAccount s = tt
-  faults_turned AskStanding s = tt
   faults_turned AskSlowestRate s = (ap (ltb max_rate) (slowest_turned τ b.table), refl, λ _. tt)
-  faults_turned Close s = tt
+  faults_turned x s = tt
 
   asked_turned : (r c : ℕ) (out : Bool) → off_sheet b.table r c ≡ out →
       cond out None (Some (cell_at (turned_table τ b.table) (sent τ b.table r c).row (sent τ b.table r c).column)) ≡ turned_asked τ (cond out None (Some (cell_at b.table r c)))
@@ -146,49 +137,25 @@ module _ (rules : Rules) (flux : LawfulFlux rules.water rules.push) (friction : 
       ap (λ o. unchanged (turned_book τ b) (CellIs o))
       (ap (λ x. cond x None (Some (cell_at (turned_table τ b.table) (sent τ b.table r c).row (sent τ b.table r c).column))) (off_turned τ b.table r c)
       ∙ asked_turned r c (off_sheet b.table r c) refl)
-  accepted_turned AskAccount s n = refl
   accepted_turned AskStanding s n = ap (λ m. unchanged (turned_book τ b) (StandingIs m)) (standing_turned τ b.table)
   accepted_turned AskSlowestRate s n = ap (λ r. unchanged (turned_book τ b) (RateIs r)) (slowest_turned τ b.table)
-  accepted_turned Close s n = refl
+  accepted_turned x s n = refl
 
 -- ---- a call, answered
 
 stage_turned : (τ : Turn) (rows columns : ℕ) (x : Call) → stage_of (turned_call τ rows columns x) ≡ stage_of x
 stage_turned τ rows columns (Prepare r c w) = refl
-stage_turned τ rows columns (Lay r c bed depth) = refl
-stage_turned τ rows columns Opening = refl
-stage_turned τ rows columns (Step rate) = refl
-stage_turned τ rows columns (Rain n) = refl
-stage_turned τ rows columns (Soak n) = refl
-stage_turned τ rows columns (ChangeSide n kind x y) = refl
-stage_turned τ rows columns (AskCell r c) = refl
-stage_turned τ rows columns AskAccount = refl
-stage_turned τ rows columns AskStanding = refl
-stage_turned τ rows columns AskSlowestRate = refl
-stage_turned τ rows columns Close = refl
+stage_turned τ rows columns x = refl
 
 -- a call that names a place comes to a book with a sheet of that size
 module _ (τ : Turn) (rows columns : ℕ) (b : Book) (size : OfSize rows columns b) where
-  sheet_size : (s : Stage) → (s ≡ start → ⊥) → b.stage ≡ s → (b.table.rows ≡ rows) × (b.table.columns ≡ columns)
-  sheet_size s h e = by size
-    where
-      by : OfSize rows columns b → (b.table.rows ≡ rows) × (b.table.columns ≡ columns)
-      by (inl z) = absurd (h (sym e ∙ z))
-      by (inr z) = z
+  sheet_size : (b.stage ≡ start → ⊥) → (b.table.rows ≡ rows) × (b.table.columns ≡ columns)
+  sheet_size h = ⊎_elim (λ z. absurd (h z)) (λ z. z) size
 
   same_call : (x : Call) → b.stage ≡ stage_of x → turned_call τ rows columns x ≡ turned_call τ b.table.rows b.table.columns x
-  same_call (Prepare r c w) e = refl
-  same_call (Lay r c bed depth) e = let z = sheet_size preparing preparing_not e in ap₂ (λ m n. turned_call τ m n (Lay r c bed depth)) (sym z.0) (sym z.1)
-  same_call Opening e = refl
-  same_call (Step rate) e = refl
-  same_call (Rain n) e = refl
-  same_call (Soak n) e = refl
-  same_call (ChangeSide n kind x y) e = refl
-  same_call (AskCell r c) e = let z = sheet_size serving serving_not e in ap₂ (λ m n. turned_call τ m n (AskCell r c)) (sym z.0) (sym z.1)
-  same_call AskAccount e = refl
-  same_call AskStanding e = refl
-  same_call AskSlowestRate e = refl
-  same_call Close e = refl
+  same_call (Lay r c bed depth) e = let z = sheet_size (λ s. cc) in ap₂ (λ m n. turned_call τ m n (Lay r c bed depth)) (sym z.0) (sym z.1)
+  same_call (AskCell r c) e = let z = sheet_size (λ s. cc) in ap₂ (λ m n. turned_call τ m n (AskCell r c)) (sym z.0) (sym z.1)
+  same_call x e = refl
 
   module _ (rules : Rules) (flux : LawfulFlux rules.water rules.push) (friction : LawfulFriction rules.slowed) (sound : SoundBook b) where
     pub answer_turned : (x : Call) → answer rules (turned_book τ b) (turned_call τ rows columns x) ≡ turned_page τ (answer rules b x)

@@ -1,46 +1,27 @@
 -- Lists of calls and of turns: turned sheets answer alike.
-use Rattle.std.proofs.Common.{◌≡◌, ℕ, List, [], ◌∷◌, map, sym, refl, ap, ◌∙◌, subst, ap₂, inl, inr, arith}
+use Rattle.std.proofs.Common.{◌≡◌, ℕ, List, [], ◌∷◌, map, sym, refl, ap, ◌∙◌, subst, ap₂, inl, inr}
 use Rattle.book.specs.declared.call.Call.{Call}
-use Rattle.book.specs.declared.call.Call.TheVariants.{Prepare, Lay, Open as Opening, Step, Rain, Soak, ChangeSide, AskCell, AskAccount, AskStanding, AskSlowestRate, Close}
+use Rattle.book.specs.declared.call.Call.TheVariants.{Prepare}
 use Rattle.rules.specs.Flux.{LawfulFlux}
 use Rattle.rules.specs.Friction.{LawfulFriction}
 use Rattle.book.specs.declared.turn.Turn.{Turn}
 use Rattle.book.specs.declared.turn.Turn.TheVariants.{EastWest, SouthNorth, RowsColumns}
 use Rattle.book.specs.Step.{Rules}
-use Rattle.book.specs.Calls.{Book, Page, start, closed, empty_book, stage_of, accepted, answer, after, replies, book_after, replies_to}
+use Rattle.book.specs.Calls.{Book, Page, empty_book, stage_of, accepted, answer, after, replies, book_after, replies_to}
 use Rattle.book.specs.Turns.{turned_rows, turned_columns, turned_call, turned_reply, turned_book, turned_calls, turned_books, turned_replies}
 use Rattle.book.proofs.Sound.{SoundBook}
 use Rattle.book.specs.Laws.{OfSize}
 use Rattle.book.proofs.Judged.{answer_book}
 use Rattle.book.proofs.Soundness.{answer_sound}
-use Rattle.book.proofs.TurnedCalls.{answer_turned, preparing_not, serving_not}
+use Rattle.book.proofs.TurnedCalls.{answer_turned}
 
 -- ---- the size stays from the preparing on
-
-closed_not : closed ≡ start → ⊥
-closed_not e = let z : ◌≡◌ {A = ℕ} 0 1 = cc in omega arith
 
 module _ (rules : Rules) (rows columns : ℕ) where
   size_accepted : (b : Book) (x : Call) → b.stage ≡ stage_of x → OfSize rows columns (accepted rules b x).book → OfSize rows columns b
   size_accepted b (Prepare r c w) e s = inl e
-  size_accepted b (Lay r c bed depth) e (inl s) = absurd (preparing_not s)
-  size_accepted b (Lay r c bed depth) e (inr s) = inr s
-  size_accepted b Opening e (inl s) = absurd (serving_not s)
-  size_accepted b Opening e (inr s) = inr s
-  size_accepted b (Step rate) e (inl s) = absurd (serving_not s)
-  size_accepted b (Step rate) e (inr s) = inr s
-  size_accepted b (Rain n) e (inl s) = absurd (serving_not s)
-  size_accepted b (Rain n) e (inr s) = inr s
-  size_accepted b (Soak n) e (inl s) = absurd (serving_not s)
-  size_accepted b (Soak n) e (inr s) = inr s
-  size_accepted b (ChangeSide n kind x y) e (inl s) = absurd (serving_not s)
-  size_accepted b (ChangeSide n kind x y) e (inr s) = inr s
-  size_accepted b (AskCell r c) e s = s
-  size_accepted b AskAccount e s = s
-  size_accepted b AskStanding e s = s
-  size_accepted b AskSlowestRate e s = s
-  size_accepted b Close e (inl s) = absurd (closed_not s)
-  size_accepted b Close e (inr s) = inr s
+  size_accepted b x e (inl s) = cc
+  size_accepted b x e (inr s) = inr s
 
   size_before : (calls : List Call) (b : Book) → OfSize rows columns (after rules b calls) → OfSize rows columns b
   size_before [] b s = s
