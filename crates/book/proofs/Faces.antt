@@ -61,15 +61,11 @@ own_below_column North own far = side_below (greater own.bed far.bed) own (great
 
 column_bed : (hand : Hand) (k : Cell) → (column hand k).bed ≡ k.bed
 column_bed West k = refl
-column_bed East k = refl
-column_bed South k = refl
-column_bed North k = refl
+column_bed hand k = refl
 
 column_depth : (hand : Hand) (k : Cell) → (column hand k).depth ≡ k.depth
 column_depth West k = refl
-column_depth East k = refl
-column_depth South k = refl
-column_depth North k = refl
+column_depth hand k = refl
 
 column_good : (hand : Hand) (k : Cell) → Ranged k → Good (column hand k)
 column_good West k h = record { shallow = h.depth; slow = h.slow_east }

@@ -11,15 +11,11 @@ use Rattle.book.proofs.Numbers.{inside}
 
 pub hand_there : (hand : Hand) → hand_of (side_number hand) ≡ hand
 hand_there West = refl
-hand_there East = refl
-hand_there South = refl
-hand_there North = refl
+hand_there hand = refl
 
 pub number_below : (hand : Hand) → side_number hand < 4
 number_below West = omega arith
-number_below East = omega arith
-number_below South = omega arith
-number_below North = omega arith
+number_below hand = omega arith
 
 -- a sheet has a row and a column
 pub rows_some : (t : Table) → Sound t → 1 ≤ t.rows

@@ -38,16 +38,10 @@ pace_turned τ hand f = go τ hand
     go : (τ : Turn) (hand : Hand) → pace (turned_face τ hand f) ≡ pace f
     go EastWest West = other
     go EastWest East = other
-    go EastWest South = refl
-    go EastWest North = refl
-    go SouthNorth West = refl
-    go SouthNorth East = refl
     go SouthNorth South = other
     go SouthNorth North = other
     go RowsColumns West = refl
-    go RowsColumns East = refl
-    go RowsColumns South = refl
-    go RowsColumns North = refl
+    go τ hand = refl
 
 cond_neg : (b : Bool) (x y : ℤ) → cond b (neg_ℤ x) (neg_ℤ y) ≡ neg_ℤ (cond b x y)
 cond_neg true x y = refl
@@ -79,16 +73,10 @@ module _ (rules : Rules) (flux : LawfulFlux rules.water rules.push) where
   outward_turned : (τ : Turn) (hand : Hand) (K : ℕ) (f : Face) → FacingBoth f → outward rules K hand (turned_face τ hand f) ≡ outward rules K (turned_hand τ hand) f
   outward_turned EastWest West K f h = ap neg_ℤ (trunc_flip K f h) ∙ neg_ℤ-neg_ℤ (trunc (water rules f) K)
   outward_turned EastWest East K f h = trunc_flip K f h
-  outward_turned EastWest South K f h = refl
-  outward_turned EastWest North K f h = refl
-  outward_turned SouthNorth West K f h = refl
-  outward_turned SouthNorth East K f h = refl
   outward_turned SouthNorth South K f h = ap neg_ℤ (trunc_flip K f h) ∙ neg_ℤ-neg_ℤ (trunc (water rules f) K)
   outward_turned SouthNorth North K f h = trunc_flip K f h
   outward_turned RowsColumns West K f h = refl
-  outward_turned RowsColumns East K f h = refl
-  outward_turned RowsColumns South K f h = refl
-  outward_turned RowsColumns North K f h = refl
+  outward_turned τ hand K f h = refl
 
   pressed_flip : (d : ℕ) (hand to : Hand) (f : Face) → own_depth hand (flip f) ≡ own_depth to f → FacingBoth f → pressed rules d hand (flip f) ≡ pressed rules d to f
   pressed_flip d hand to f e h = ap₂ (λ p o. p +ℤ (pos 981 *ℤ (pos (d * d) -ℤ pos (o * o)))) (push_flip f h) e
@@ -96,16 +84,10 @@ module _ (rules : Rules) (flux : LawfulFlux rules.water rules.push) where
   pressed_turned : (τ : Turn) (hand : Hand) (d : ℕ) (f : Face) → FacingBoth f → pressed rules d hand (turned_face τ hand f) ≡ pressed rules d (turned_hand τ hand) f
   pressed_turned EastWest West d f h = pressed_flip d West East f refl h
   pressed_turned EastWest East d f h = pressed_flip d East West f refl h
-  pressed_turned EastWest South d f h = refl
-  pressed_turned EastWest North d f h = refl
-  pressed_turned SouthNorth West d f h = refl
-  pressed_turned SouthNorth East d f h = refl
   pressed_turned SouthNorth South d f h = pressed_flip d South North f refl h
   pressed_turned SouthNorth North d f h = pressed_flip d North South f refl h
   pressed_turned RowsColumns West d f h = refl
-  pressed_turned RowsColumns East d f h = refl
-  pressed_turned RowsColumns South d f h = refl
-  pressed_turned RowsColumns North d f h = refl
+  pressed_turned τ hand d f h = refl
 
 thrust_neg : (a b c d : ℤ) → thrust a b (neg_ℤ c) (neg_ℤ d) ≡ neg_ℤ (thrust b a c d)
 thrust_neg a b c d = omega (arith, ints)
@@ -122,8 +104,7 @@ all_turned RowsColumns f g h = omega (arith, h West, h East, h South, h North)
 
 pub depth_kept : (τ : Turn) (k : Cell) → (turned_cell τ k).depth ≡ k.depth
 depth_kept EastWest k = refl
-depth_kept SouthNorth k = refl
-depth_kept RowsColumns k = refl
+depth_kept τ k = refl
 
 speed_turned : (τ : Turn) (k : Cell) → speed (turned_cell τ k) ≡ speed k
 speed_turned EastWest k = rw (velocity_neg k.east k.depth) (friction_speed_neg_east (velocity k.east k.depth) (velocity k.north k.depth))

@@ -6,7 +6,7 @@ use Rattle.book.specs.declared.cell.Cell.{Cell}
 use Rattle.book.specs.declared.side.Hand.{Hand}
 use Rattle.book.specs.declared.side.Hand.TheVariants.{West, East, South, North}
 use Rattle.book.specs.declared.side.Side.{Side}
-use Rattle.book.specs.declared.side.Side.TheVariants.{Wall, Open, Held, Fed}
+use Rattle.book.specs.declared.side.Side.TheVariants.{Fed}
 use Rattle.book.specs.declared.turn.Turn.{Turn}
 use Rattle.book.specs.declared.turn.Turn.TheVariants.{EastWest, SouthNorth, RowsColumns}
 use Rattle.book.specs.Numbers.{positive, greater, where_wet}
@@ -41,76 +41,40 @@ counter f = record { left = counter_side f.left; right = counter_side f.right }
 abbrev turned_column : Turn → Hand → Column → Column
 turned_column EastWest West k = flip_column k
 turned_column EastWest East k = flip_column k
-turned_column EastWest South k = counter_column k
-turned_column EastWest North k = counter_column k
-turned_column SouthNorth West k = counter_column k
-turned_column SouthNorth East k = counter_column k
 turned_column SouthNorth South k = flip_column k
 turned_column SouthNorth North k = flip_column k
-turned_column RowsColumns West k = k
-turned_column RowsColumns East k = k
-turned_column RowsColumns South k = k
-turned_column RowsColumns North k = k
+turned_column RowsColumns hand k = k
+turned_column τ hand k = counter_column k
 
 abbrev pub turned_face : Turn → Hand → Face → Face
 turned_face EastWest West f = flip f
 turned_face EastWest East f = flip f
-turned_face EastWest South f = counter f
-turned_face EastWest North f = counter f
-turned_face SouthNorth West f = counter f
-turned_face SouthNorth East f = counter f
 turned_face SouthNorth South f = flip f
 turned_face SouthNorth North f = flip f
-turned_face RowsColumns West f = f
-turned_face RowsColumns East f = f
-turned_face RowsColumns South f = f
-turned_face RowsColumns North f = f
+turned_face RowsColumns hand f = f
+turned_face τ hand f = counter f
 
 column_turned : (τ : Turn) (hand : Hand) (k : Cell) → column hand (turned_cell τ k) ≡ turned_column τ hand (column (turned_hand τ hand) k)
-column_turned EastWest West k = rw (velocity_neg k.east k.depth)
-column_turned EastWest East k = rw (velocity_neg k.east k.depth)
-column_turned EastWest South k = rw (velocity_neg k.east k.depth)
-column_turned EastWest North k = rw (velocity_neg k.east k.depth)
-column_turned SouthNorth West k = rw (velocity_neg k.north k.depth)
-column_turned SouthNorth East k = rw (velocity_neg k.north k.depth)
-column_turned SouthNorth South k = rw (velocity_neg k.north k.depth)
-column_turned SouthNorth North k = rw (velocity_neg k.north k.depth)
+column_turned EastWest West k = rw velocity_neg
+column_turned SouthNorth West k = rw velocity_neg
 column_turned RowsColumns West k = refl
-column_turned RowsColumns East k = refl
-column_turned RowsColumns South k = refl
-column_turned RowsColumns North k = refl
-
-ghost_flip_low : (s : Side) (low high : Hand) (k : Column) → ((b : ℕ) → (ghost (Fed 0 b) low k).normal ≡ neg_ℤ (ghost (Fed 0 b) high k).normal) → ghost s low (flip_column k) ≡ flip_column (ghost s high k)
-ghost_flip_low Wall low high k e = refl
-ghost_flip_low Open low high k e = refl
-ghost_flip_low (Held a) low high k e = refl
-ghost_flip_low (Fed a b) low high k e = ap (λ v. record { bed = k.bed; depth = a; normal = v; along = pos 0 }) (e b)
-
-ghost_counter : (s : Side) (hand : Hand) (k : Column) → ghost s hand (counter_column k) ≡ counter_column (ghost s hand k)
-ghost_counter Wall hand k = refl
-ghost_counter Open hand k = refl
-ghost_counter (Held a) hand k = refl
-ghost_counter (Fed a b) hand k = refl
-
-ghost_swap : (s : Side) (hand to : Hand) (k : Column) → ((b : ℕ) → (ghost (Fed 0 b) hand k).normal ≡ (ghost (Fed 0 b) to k).normal) → ghost s hand k ≡ ghost s to k
-ghost_swap Wall hand to k e = refl
-ghost_swap Open hand to k e = refl
-ghost_swap (Held a) hand to k e = refl
-ghost_swap (Fed a b) hand to k e = ap (λ v. record { bed = k.bed; depth = a; normal = v; along = pos 0 }) (e b)
+column_turned RowsColumns hand k = refl
+column_turned τ hand k = rw velocity_neg
 
 ghost_turned : (τ : Turn) (hand : Hand) (s : Side) (k : Column) → ghost s hand (turned_column τ hand k) ≡ turned_column τ hand (ghost s (turned_hand τ hand) k)
-ghost_turned EastWest West s k = ghost_flip_low s West East k (λ b. sym (neg_ℤ-neg_ℤ (pos b)))
-ghost_turned EastWest East s k = ghost_flip_low s East West k (λ b. refl)
-ghost_turned EastWest South s k = ghost_counter s South k
-ghost_turned EastWest North s k = ghost_counter s North k
-ghost_turned SouthNorth West s k = ghost_counter s West k
-ghost_turned SouthNorth East s k = ghost_counter s East k
-ghost_turned SouthNorth South s k = ghost_flip_low s South North k (λ b. sym (neg_ℤ-neg_ℤ (pos b)))
-ghost_turned SouthNorth North s k = ghost_flip_low s North South k (λ b. refl)
-ghost_turned RowsColumns West s k = ghost_swap s West South k (λ b. refl)
-ghost_turned RowsColumns East s k = ghost_swap s East North k (λ b. refl)
-ghost_turned RowsColumns South s k = ghost_swap s South West k (λ b. refl)
-ghost_turned RowsColumns North s k = ghost_swap s North East k (λ b. refl)
+ghost_turned EastWest West (Fed a b) k = rw neg_ℤ-neg_ℤ
+ghost_turned EastWest East (Fed a b) k = refl
+ghost_turned EastWest South (Fed a b) k = refl
+ghost_turned EastWest North (Fed a b) k = refl
+ghost_turned SouthNorth West (Fed a b) k = refl
+ghost_turned SouthNorth East (Fed a b) k = refl
+ghost_turned SouthNorth South (Fed a b) k = rw neg_ℤ-neg_ℤ
+ghost_turned SouthNorth North (Fed a b) k = refl
+ghost_turned RowsColumns West (Fed a b) k = refl
+ghost_turned RowsColumns East (Fed a b) k = refl
+ghost_turned RowsColumns South (Fed a b) k = refl
+ghost_turned RowsColumns North (Fed a b) k = refl
+ghost_turned τ hand s k = refl
 
 side_flip : (b : ℤ) (k : Column) → above b (flip_column k) ≡ flip_side (above b k)
 side_flip b k =
@@ -140,9 +104,7 @@ face_of_turned SouthNorth East a b = meet_counter a b
 face_of_turned SouthNorth South a b = meet_flip a b
 face_of_turned SouthNorth North a b = meet_flip b a
 face_of_turned RowsColumns West a b = refl
-face_of_turned RowsColumns East a b = refl
-face_of_turned RowsColumns South a b = refl
-face_of_turned RowsColumns North a b = refl
+face_of_turned τ hand a b = refl
 
 -- ---- places
 
@@ -178,9 +140,7 @@ cell_turned τ t r c h k = grid_at (high τ t) (wide τ t) (λ i j. turned_cell 
 
 side_turned : (τ : Turn) (t : Table) (hand : Hand) → side_at (turned_table τ t) hand ≡ side_at t (turned_hand τ hand)
 side_turned τ t West = refl
-side_turned τ t East = refl
-side_turned τ t South = refl
-side_turned τ t North = refl
+side_turned τ t hand = refl
 
 -- a cell of the turned sheet, and the cell that came there, both have a side of the sheet to a hand, or have neighbours that come to one another
 data Meeting (τ : Turn) (t : Table) (r c : ℕ) (hand : Hand) : Type 0 where

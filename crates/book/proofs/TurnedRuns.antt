@@ -5,7 +5,7 @@ use Rattle.book.specs.declared.call.Call.TheVariants.{Prepare}
 use Rattle.rules.specs.Flux.{LawfulFlux}
 use Rattle.rules.specs.Friction.{LawfulFriction}
 use Rattle.book.specs.declared.turn.Turn.{Turn}
-use Rattle.book.specs.declared.turn.Turn.TheVariants.{EastWest, SouthNorth, RowsColumns}
+use Rattle.book.specs.declared.turn.Turn.TheVariants.{EastWest}
 use Rattle.book.specs.Step.{Rules}
 use Rattle.book.specs.Calls.{Book, Page, empty_book, stage_of, accepted, answer, after, replies, book_after, replies_to}
 use Rattle.book.specs.Turns.{turned_rows, turned_columns, turned_call, turned_reply, turned_book, turned_calls, turned_books, turned_replies}
@@ -33,8 +33,7 @@ of_size_turned τ rows columns b (inr s) = inr (ap₂ (turned_rows τ) s.0 s.1, 
 
 first_turned : (τ : Turn) → empty_book ≡ turned_book τ empty_book
 first_turned EastWest = refl
-first_turned SouthNorth = refl
-first_turned RowsColumns = refl
+first_turned τ = refl
 
 module _ (rules : Rules) (flux : LawfulFlux rules.water rules.push) (friction : LawfulFriction rules.slowed) where
   -- ---- one turn of a list of calls

@@ -6,7 +6,7 @@ use Rattle.book.specs.declared.cell.Cell.{Cell}
 use Rattle.book.specs.declared.side.Hand.{Hand}
 use Rattle.book.specs.declared.side.Hand.TheVariants.{West, East, South, North}
 use Rattle.book.specs.declared.side.Side.{Side}
-use Rattle.book.specs.declared.side.Side.TheVariants.{Wall, Open, Held, Fed}
+use Rattle.book.specs.declared.side.Side.TheVariants.{Wall, Held}
 use Rattle.book.specs.declared.turn.Turn.{Turn}
 use Rattle.book.specs.declared.turn.Turn.TheVariants.{EastWest, SouthNorth, RowsColumns}
 use Rattle.book.specs.Ranges.{max_depth}
@@ -25,17 +25,9 @@ use Rattle.book.proofs.TurnedCells.{depth_kept}
 
 pub hand_twice : (τ : Turn) (hand : Hand) → turned_hand τ (turned_hand τ hand) ≡ hand
 hand_twice EastWest West = refl
-hand_twice EastWest East = refl
-hand_twice EastWest South = refl
-hand_twice EastWest North = refl
 hand_twice SouthNorth West = refl
-hand_twice SouthNorth East = refl
-hand_twice SouthNorth South = refl
-hand_twice SouthNorth North = refl
 hand_twice RowsColumns West = refl
-hand_twice RowsColumns East = refl
-hand_twice RowsColumns South = refl
-hand_twice RowsColumns North = refl
+hand_twice τ hand = refl
 
 pub some_hand_turned : (τ : Turn) (p q : Hand → Bool) → ((hand : Hand) → p hand ≡ q (turned_hand τ hand)) → some_hand p ≡ some_hand q
 some_hand_turned τ p q h = (λ i. (h West i || h East i) || (h South i || h North i)) ∙ by τ
@@ -111,18 +103,15 @@ module _ {A : Type 0} (B : ℕ → (ℕ → A) → A)
 
 bed_kept : (τ : Turn) (k : Cell) → (turned_cell τ k).bed ≡ k.bed
 bed_kept EastWest k = refl
-bed_kept SouthNorth k = refl
-bed_kept RowsColumns k = refl
+bed_kept τ k = refl
 
 laid_kept : (τ : Turn) (k : Cell) → (turned_cell τ k).laid ≡ k.laid
 laid_kept EastWest k = refl
-laid_kept SouthNorth k = refl
-laid_kept RowsColumns k = refl
+laid_kept τ k = refl
 
 no_cell_turned : (τ : Turn) → turned_cell τ no_cell ≡ no_cell
 no_cell_turned EastWest = refl
-no_cell_turned SouthNorth = refl
-no_cell_turned RowsColumns = refl
+no_cell_turned τ = refl
 
 module _ (τ : Turn) (t : Table) where
   pub depth_came : (r c : ℕ) → r < high τ t → c < wide τ t → (cell_at (turned_table τ t) r c).depth ≡ (came_cell τ t r c).depth
@@ -224,8 +213,7 @@ turned_sides τ xs =
 
 pub walls_turned : (τ : Turn) → turned_sides τ four_walls ≡ four_walls
 walls_turned EastWest = refl
-walls_turned SouthNorth = refl
-walls_turned RowsColumns = refl
+walls_turned τ = refl
 
 pub blank_turned : (τ : Turn) (rows columns width : ℕ) → turned_table τ (blank rows columns width) ≡ blank (turned_rows τ rows columns) (turned_columns τ rows columns) width
 blank_turned τ rows columns width =
@@ -234,31 +222,17 @@ blank_turned τ rows columns width =
 sides_set_four : (τ : Turn) (hand : Hand) (a b c d x : Side) →
     turned_sides τ (set (a ∷ b ∷ c ∷ d ∷ []) (side_number hand) x) ≡ set (turned_sides τ (a ∷ b ∷ c ∷ d ∷ [])) (side_number (turned_hand τ hand)) x
 sides_set_four EastWest West a b c d x = refl
-sides_set_four EastWest East a b c d x = refl
-sides_set_four EastWest South a b c d x = refl
-sides_set_four EastWest North a b c d x = refl
 sides_set_four SouthNorth West a b c d x = refl
-sides_set_four SouthNorth East a b c d x = refl
-sides_set_four SouthNorth South a b c d x = refl
-sides_set_four SouthNorth North a b c d x = refl
 sides_set_four RowsColumns West a b c d x = refl
-sides_set_four RowsColumns East a b c d x = refl
-sides_set_four RowsColumns South a b c d x = refl
-sides_set_four RowsColumns North a b c d x = refl
+sides_set_four τ hand a b c d x = refl
 
 pub sides_set : (τ : Turn) (hand : Hand) (xs : List Side) (x : Side) → length xs ≡ 4 →
     turned_sides τ (set xs (side_number hand) x) ≡ set (turned_sides τ xs) (side_number (turned_hand τ hand)) x
-sides_set τ hand [] x e = absurd (omega arith)
-sides_set τ hand (a ∷ []) x e = absurd (omega arith)
-sides_set τ hand (a ∷ b ∷ []) x e = absurd (omega arith)
-sides_set τ hand (a ∷ b ∷ c ∷ []) x e = absurd (omega arith)
 sides_set τ hand (a ∷ b ∷ c ∷ d ∷ []) x e = sides_set_four τ hand a b c d x
-sides_set τ hand (a ∷ b ∷ c ∷ d ∷ f ∷ xs) x e = absurd (omega arith)
+sides_set τ hand xs x e = absurd (omega arith)
 
 pub held_turned : (τ : Turn) (t : Table) → Sound t → (hand : Hand) (x : Side) → held_over (turned_table τ t) hand x ≡ held_over t (turned_hand τ hand) x
-held_turned τ t sound hand Wall = refl
-held_turned τ t sound hand Open = refl
 held_turned τ t sound hand (Held a) =
     side_turned_by some_below some_same some_mirrored t (rows_some t sound) (columns_some t sound) τ hand (λ r c. ltb max_depth (held_depth a (cell_at (turned_table τ t) r c).bed)) (λ r c. ltb max_depth (held_depth a (cell_at t r c).bed))
     (λ r c h k. ap (λ b. ltb max_depth (held_depth a b)) (bed_came τ t r c h k))
-held_turned τ t sound hand (Fed a b) = refl
+held_turned τ t sound hand x = refl

@@ -26,35 +26,29 @@ full_turned RowsColumns a = ap (λ x. (ltb max_count a.poured || ltb max_count a
 
 pub poured_turned : (τ : Turn) (n : ℕ) → poured_only n ≡ turned_account τ (poured_only n)
 poured_turned EastWest n = refl
-poured_turned SouthNorth n = refl
-poured_turned RowsColumns n = refl
+poured_turned τ n = refl
 
 pub rain_turned : (τ : Turn) (a : Account) (n : ℕ) → rain_more (turned_account τ a) n ≡ turned_account τ (rain_more a n)
 rain_turned EastWest a n = refl
-rain_turned SouthNorth a n = refl
-rain_turned RowsColumns a n = refl
+rain_turned τ a n = refl
 
 pub soak_turned : (τ : Turn) (a : Account) (n : ℕ) → soak_more (turned_account τ a) n ≡ turned_account τ (soak_more a n)
 soak_turned EastWest a n = refl
-soak_turned SouthNorth a n = refl
-soak_turned RowsColumns a n = refl
+soak_turned τ a n = refl
 
 -- ---- cells, each by itself
 
 pub fresh_turned : (τ : Turn) (bed : ℤ) (depth : ℕ) → fresh bed depth ≡ turned_cell τ (fresh bed depth)
 fresh_turned EastWest bed depth = refl
-fresh_turned SouthNorth bed depth = refl
-fresh_turned RowsColumns bed depth = refl
+fresh_turned τ bed depth = refl
 
 pub rest_turned : (τ : Turn) (k : Cell) → at_rest (turned_cell τ k) ≡ turned_cell τ (at_rest k)
 rest_turned EastWest k = refl
-rest_turned SouthNorth k = refl
-rest_turned RowsColumns k = refl
+rest_turned τ k = refl
 
 pub rained_turned : (τ : Turn) (n : ℕ) (k : Cell) → rained n (turned_cell τ k) ≡ turned_cell τ (rained n k)
 rained_turned EastWest n k = refl
-rained_turned SouthNorth n k = refl
-rained_turned RowsColumns n k = refl
+rained_turned τ n k = refl
 
 soaked_flow : (h d : ℕ) (q : ℤ) → thinned h (pos h *ℤ velocity (neg_ℤ q) d) ≡ neg_ℤ (thinned h (pos h *ℤ velocity q d))
 soaked_flow h d q =
@@ -73,14 +67,12 @@ soaked_turned RowsColumns n k = refl
 -- ---- what a call names
 
 pub size_turned : (τ : Turn) (rows columns width : ℕ) → size_amiss (turned_rows τ rows columns) (turned_columns τ rows columns) width ≡ size_amiss rows columns width
-size_turned EastWest rows columns width = refl
-size_turned SouthNorth rows columns width = refl
 size_turned RowsColumns rows columns width = λ i. or_comm (outside 1 64 columns) (outside 1 64 rows) i || (ltb 1024 (mul_comm columns rows i) || outside 10 100000 width)
+size_turned τ rows columns width = refl
 
 pub product_turned : (τ : Turn) (rows columns : ℕ) → turned_rows τ rows columns * turned_columns τ rows columns ≡ rows * columns
-product_turned EastWest rows columns = refl
-product_turned SouthNorth rows columns = refl
 product_turned RowsColumns rows columns = mul_comm columns rows
+product_turned τ rows columns = refl
 
 leb_mirrored : (n k : ℕ) → leb n (mirrored n k) ≡ leb n k
 leb_mirrored n k =
