@@ -3,7 +3,7 @@ use Rattle.std.proofs.Common.{◌≡◌, ℕ, zero, suc, ◌<◌, ◌≤◌, ℤ
 use Rattle.std.proofs.lemmas.Int.{ints}
 use Rattle.book.specs.declared.cell.Cell.{Cell}
 use Rattle.book.specs.declared.side.Hand.{Hand}
-use Rattle.book.specs.declared.side.Hand.TheVariants.{West, East, South, North}
+use Rattle.book.specs.declared.side.Hand.TheVariants.{West, South, North}
 use Rattle.book.specs.declared.side.Side.{Side}
 use Rattle.book.specs.declared.side.Side.TheVariants.{Wall, Open, Held, Fed}
 use Rattle.rules.specs.Side.{Facing}
@@ -12,7 +12,7 @@ use Rattle.book.specs.Numbers.{greater, where_wet}
 use Rattle.book.specs.Faces.{Column, column, ghost, inward, above, meet, face_of, own_depth, held_depth}
 use Rattle.book.specs.Sheets.{Table, Place, cell_at, side_at, neighbour, seen, beyond, face}
 use Rattle.book.proofs.Sound.{Ranged, Sound, GhostKept, FacingBoth}
-use Rattle.book.proofs.Numbers.{positive_le, abs_neg, greater_left, greater_right}
+use Rattle.book.proofs.Numbers.{positive_le, greater_left, greater_right}
 use Rattle.book.proofs.Neighbours.{Stands, stands}
 
 record Good (k : Column) : Type 0 where
@@ -47,15 +47,8 @@ meet_facing l r g h = record {
 
 face_facing : (hand : Hand) (own far : Column) → Good own → Good far → FacingBoth (face_of hand own far)
 face_facing West own far g h = meet_facing far own h g
-face_facing East own far g h = meet_facing own far g h
 face_facing South own far g h = meet_facing far own h g
-face_facing North own far g h = meet_facing own far g h
-
-own_below_column : (hand : Hand) (own far : Column) → own_depth hand (face_of hand own far) ≤ own.depth
-own_below_column West own far = side_below (greater far.bed own.bed) own (greater_right far.bed own.bed)
-own_below_column East own far = side_below (greater own.bed far.bed) own (greater_left own.bed far.bed)
-own_below_column South own far = side_below (greater far.bed own.bed) own (greater_right far.bed own.bed)
-own_below_column North own far = side_below (greater own.bed far.bed) own (greater_left own.bed far.bed)
+face_facing hand own far g h = meet_facing own far g h
 
 -- ---- columns
 
@@ -63,26 +56,19 @@ column_bed : (hand : Hand) (k : Cell) → (column hand k).bed ≡ k.bed
 column_bed West k = refl
 column_bed hand k = refl
 
-column_depth : (hand : Hand) (k : Cell) → (column hand k).depth ≡ k.depth
-column_depth West k = refl
-column_depth hand k = refl
-
 column_good : (hand : Hand) (k : Cell) → Ranged k → Good (column hand k)
-column_good West k h = record { shallow = h.depth; slow = h.slow_east }
-column_good East k h = record { shallow = h.depth; slow = h.slow_east }
 column_good South k h = record { shallow = h.depth; slow = h.slow_north }
 column_good North k h = record { shallow = h.depth; slow = h.slow_north }
+column_good hand k h = record { shallow = h.depth; slow = h.slow_east }
 
 inward_abs : (hand : Hand) (b : ℕ) → nat_abs (inward hand b) ≡ b
-inward_abs West b = refl
-inward_abs East b = abs_neg (pos b)
-inward_abs South b = refl
-inward_abs North b = abs_neg (pos b)
+inward_abs West b = omega (arith, ints)
+inward_abs hand b = omega (arith, ints)
 
 ghost_good : (s : Side) (hand : Hand) (k : Cell) → Ranged k → GhostKept s k → Good (ghost s hand (column hand k))
 ghost_good Wall hand k h b =
     let g = column_good hand k h in
-    record { shallow = g.shallow; slow = rw (abs_neg (column hand k).normal) g.slow }
+    record { shallow = g.shallow; slow = omega (arith, ints, g.slow) }
 ghost_good Open hand k h b = column_good hand k h
 ghost_good (Held a) hand k h b =
     let g = column_good hand k h in
@@ -103,4 +89,6 @@ module _ (t : Table) (sound : Sound t) (r c : ℕ) (p : r < t.rows) (q : c < t.c
 
 -- a cell's own depth at a face is no more than its depth
 pub own_below : (t : Table) (r c : ℕ) (hand : Hand) → own_depth hand (face t r c hand) ≤ (cell_at t r c).depth
-own_below t r c hand = omega (arith, own_below_column hand (column hand (cell_at t r c)) (beyond t r c hand), column_depth hand (cell_at t r c))
+own_below t r c West = side_below _ (column West (cell_at t r c)) (greater_right _ _)
+own_below t r c South = side_below _ (column South (cell_at t r c)) (greater_right _ _)
+own_below t r c hand = side_below _ (column hand (cell_at t r c)) (greater_left _ _)

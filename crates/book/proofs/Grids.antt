@@ -2,7 +2,8 @@
 use Rattle.std.proofs.Common.{◌≡◌, ℕ, zero, suc, ◌+◌, ◌*◌, ◌/◌, ◌%◌, ◌<◌, ◌⊎◌, List, map, length, get_or, set, sym, ap, ◌∙◌, ap₂, inl, inr, ⊎_elim, arith}
 use Rattle.std.proofs.lemmas.Nat.{mul-add-lt, div-mul-add, mod-mul-add, div_below, mod_below, div-add-mod'}
 use Rattle.std.proofs.lemmas.List.FromFn.{length-map-range_with_len, get_or-map-range_with_len, fill_by_all}
-use Rattle.std.proofs.lemmas.List.{get_or-map, get_or-set_same, get_or-set_other}
+use Rattle.std.proofs.lemmas.List.{get_or-map, get_or-set_other}
+use Rattle.std.proofs.lemmas.Grind.{get_or-set_at}
 use Rattle.std.proofs.lemmas.Bool.{cases_eq}
 use Rattle.book.specs.declared.cell.Cell.{Cell}
 use Rattle.book.specs.Sheets.{no_cell, grid}
@@ -38,14 +39,4 @@ map_at rows columns cells f r c e p q = get_or-map f cells (r * columns + c) no_
 
 -- what a place holds after one place is set: the new or what was there
 pub set_at : (cells : List Cell) (i j : ℕ) (k : Cell) → j < length cells → (get_or (set cells i k) j no_cell ≡ k) ⊎ (get_or (set cells i k) j no_cell ≡ get_or cells j no_cell)
-set_at cells i j k h = ⊎_elim (λ e. inl (same e)) (λ e. inr (get_or-set_other cells i j k no_cell e)) (cases_eq j i)
-  where
-    same : j ≡ i → get_or (set cells i k) j no_cell ≡ k
-    same e = let b : i < length cells = omega arith in ap (λ x. get_or (set cells i k) x no_cell) e ∙ get_or-set_same cells i k no_cell b
-
--- two places with one number are one place
-pub one_row : (columns r c r' c' : ℕ) → c < columns → c' < columns → r * columns + c ≡ r' * columns + c' → r ≡ r'
-one_row columns r c r' c' h k e = sym (div-mul-add r columns c h) ∙ (ap (λ n. n / columns) e ∙ div-mul-add r' columns c' k)
-
-pub one_column : (columns r c r' c' : ℕ) → c < columns → c' < columns → r * columns + c ≡ r' * columns + c' → c ≡ c'
-one_column columns r c r' c' h k e = sym (mod-mul-add r columns c h) ∙ (ap (λ n. n % columns) e ∙ mod-mul-add r' columns c' k)
+set_at cells i j k h = ⊎_elim (λ e. inl (get_or-set_at cells i j k no_cell e (omega arith))) (λ e. inr (get_or-set_other cells i j k no_cell e)) (cases_eq j i)

@@ -1,6 +1,7 @@
 -- Every list of calls leaves a sound table; no step overdraws a cell.
 use Rattle.std.proofs.Common.{◌≡◌, ℕ, zero, suc, ◌+◌, ◌*◌, ◌<◌, ◌≤◌, true, false, ltb, List, [], ◌∷◌, map, length, get_or, set, ℤ, pos, negsuc, nat_abs, sym, refl, ap, ◌∙◌, subst, ⊎_elim, zero-le, arith}
-use Rattle.std.proofs.lemmas.List.{get_or-set_same, get_or-set_other, get_or-replicate, length-set, length-map, length-replicate}
+use Rattle.std.proofs.lemmas.Grind.{get_or-set_at}
+use Rattle.std.proofs.lemmas.List.{get_or-set_other, get_or-replicate, length-set, length-map, length-replicate}
 use Rattle.std.proofs.lemmas.Bool.{ltb-false, cases_eq, or_parts, true≢false}
 use Rattle.book.specs.declared.cell.Cell.{Cell}
 use Rattle.book.specs.declared.side.Hand.{Hand}
@@ -109,7 +110,7 @@ module _ (t : Table) (sound : Sound t) (hand : Hand) (s : Side) (allowed : Allow
       same : side_number other ≡ side_number hand → GhostKept (get_or (set t.sides (side_number hand) s) (side_number other) Wall) (border_cell t other k)
       same n =
           let is : hand ≡ other = sym (hand_there hand) ∙ (ap hand_of (sym n) ∙ hand_there other) in
-          rw n (rw (get_or-set_same t.sides (side_number hand) s Wall (omega (arith, number_below hand, sound.four))) (changed_ghosts s allowed other (subst (λ x. held_over t x s ≡ false) is over) k h))
+          rw (get_or-set_at t.sides (side_number hand) (side_number other) s Wall n (omega (arith, number_below hand, sound.four))) (changed_ghosts s allowed other (subst (λ x. held_over t x s ≡ false) is over) k h)
 
       apart : (side_number other ≡ side_number hand → ⊥) → GhostKept (get_or (set t.sides (side_number hand) s) (side_number other) Wall) (border_cell t other k)
       apart n = rw (get_or-set_other t.sides (side_number hand) (side_number other) s Wall n) (sound.ghosts other k h)

@@ -23,7 +23,7 @@ use Rattle.book.specs.Accounts.{passed_by, account_after_step}
 use Rattle.book.specs.Calls.{Book, serving, faults, accepted, answer, after, book_after}
 use Rattle.book.proofs.Sound.{Ranged, Sound, FacingBoth}
 use Rattle.book.specs.Laws.{Still, Quiet, step_or_question, fed, Refuses}
-use Rattle.book.proofs.Numbers.{abs_zero, share_zero, velocity_zero, where_wet_zero, still_slow, carried_none, inside}
+use Rattle.book.proofs.Numbers.{share_zero, velocity_zero, where_wet_zero, still_slow, carried_none, inside}
 use Rattle.book.proofs.Grids.{grid_from}
 use Rattle.book.proofs.Neighbours.{Stands, stands, border_row, border_column}
 use Rattle.book.proofs.Faces.{faces_sound}
@@ -122,7 +122,7 @@ module _ (rules : Rules) (flux : LawfulFlux rules.water rules.push) where
       no_flow h q e f =
           rw f
           (cond_both (ltb h film) (pos 0) (rules.slowed (pos 0) (speed cell) h rate) (λ z. z ≡ pos 0) (λ _. refl)
-          (λ deep. abs_zero (rules.slowed (pos 0) (speed cell) h rate) (friction.no_larger (pos 0) (speed cell) h rate (slowing cell ranged rate low high h (ltb-false h film deep) (omega (arith, ranged.depth)) (pos 0) (still_slow h)))))
+          (λ deep. omega (arith, ints, friction.no_larger (pos 0) (speed cell) h rate (slowing cell ranged rate low high h (ltb-false h film deep) (omega (arith, ranged.depth)) (pos 0) (still_slow h)))))
 
       same_cell : cell_after rules cell faces k rate ≡ cell
       same_cell =

@@ -1,8 +1,9 @@
 -- Sums and tests over the numbers below n, over the places of a sheet and over the four hands; the numbers below n mirrored.
-use Rattle.std.proofs.Common.{◌≡◌, ℕ, zero, suc, ◌+◌, ◌-◌, ◌*◌, ◌<◌, ◌≤◌, Bool, true, false, ◌||◌, ltb, sym, refl, ap, ◌∙◌, subst, ap₂, inl, inr, add_assoc, add_comm, zero-add, arith}
+use Rattle.std.proofs.Common.{◌≡◌, ℕ, zero, suc, ◌+◌, ◌-◌, ◌*◌, ◌<◌, ◌≤◌, Bool, false, ◌||◌, ltb, sym, refl, ap, ◌∙◌, subst, ap₂, ⊎_elim, add_assoc, add_comm, zero-add, arith}
+use Rattle.std.proofs.Math.Bool.{or_assoc, or_comm}
 use Rattle.std.proofs.lemmas.Bool.{lt-ltb, cond-true, cases_lt, or_parts}
 use Rattle.book.specs.declared.side.Hand.{Hand}
-use Rattle.book.specs.declared.side.Hand.TheVariants.{West, East, South, North}
+use Rattle.book.specs.declared.side.Hand.TheVariants.{West}
 use Rattle.book.specs.declared.turn.Turn.{Turn}
 use Rattle.book.specs.declared.turn.Turn.TheVariants.{EastWest, SouthNorth, RowsColumns}
 use Rattle.book.specs.Sheets.{Table, Place, sum_below, some_below, some_place, some_hand}
@@ -29,13 +30,13 @@ module _ {A : Type 0} (e : A) (op : A → A → A) (B : ℕ → (ℕ → A) → 
     (none : (f : ℕ → A) → B zero f ≡ e) (more : (n : ℕ) (f : ℕ → A) → B (suc n) f ≡ op (B n f) (f n))
     (left : (x : A) → op e x ≡ x) (assoc : (x y z : A) → op (op x y) z ≡ op x (op y z)) (comm : (x y : A) → op x y ≡ op y x) where
   below_same : (n : ℕ) (f g : ℕ → A) → ((k : ℕ) → k < n → f k ≡ g k) → B n f ≡ B n g
-  below_same zero f g h = none f ∙ sym (none g)
-  below_same (suc n) f g h = more n f ∙ (ap₂ op (below_same n f g (λ k l. h k (omega arith))) (h n (omega arith)) ∙ sym (more n g))
+  below_same zero f g h = cc (none f, none g)
+  below_same (suc n) f g h = cc (more n f, below_same n f g (λ k l. h k (omega arith)), h n (omega arith), more n g)
 
   -- the first taken out at the front
   below_front : (n : ℕ) (f : ℕ → A) → B (suc n) f ≡ op (f 0) (B n (λ k. f (suc k)))
-  below_front zero f = more 0 f ∙ (ap (λ x. op x (f 0)) (none f) ∙ (comm e (f 0) ∙ ap (op (f 0)) (sym (none (λ k. f (suc k))))))
-  below_front (suc n) f = more (suc n) f ∙ (ap (λ x. op x (f (suc n))) (below_front n f) ∙ (assoc (f 0) (B n (λ k. f (suc k))) (f (suc n)) ∙ ap (op (f 0)) (sym (more n (λ k. f (suc k))))))
+  below_front zero f = cc (more 0 f, none f, comm e (f 0), none (λ k. f (suc k)))
+  below_front (suc n) f = cc (more (suc n) f, below_front n f, assoc (f 0) (B n (λ k. f (suc k))) (f (suc n)), more n (λ k. f (suc k)))
 
   below_mirrored : (n : ℕ) (f : ℕ → A) → B n (λ k. f (mirrored n k)) ≡ B n f
   below_mirrored zero f = none (λ k. f (mirrored zero k)) ∙ sym (none f)
@@ -48,17 +49,15 @@ module _ {A : Type 0} (e : A) (op : A → A → A) (B : ℕ → (ℕ → A) → 
       ∙ (comm (f n) (B n f) ∙ sym (more n f)))
 
   below_op : (n : ℕ) (f g : ℕ → A) → B n (λ k. op (f k) (g k)) ≡ op (B n f) (B n g)
-  below_op zero f g = none (λ k. op (f k) (g k)) ∙ (sym (left e) ∙ ap₂ op (sym (none f)) (sym (none g)))
-  below_op (suc n) f g =
-      more n (λ k. op (f k) (g k)) ∙ (ap (λ x. op x (op (f n) (g n))) (below_op n f g)
-      ∙ (shuffle (B n f) (B n g) (f n) (g n) ∙ ap₂ op (sym (more n f)) (sym (more n g))))
+  below_op zero f g = cc (none (λ k. op (f k) (g k)), left e, none f, none g)
+  below_op (suc n) f g = cc (more n (λ k. op (f k) (g k)), below_op n f g, shuffle (B n f) (B n g) (f n) (g n), more n f, more n g)
     where
       shuffle : (a b c d : A) → op (op a b) (op c d) ≡ op (op a c) (op b d)
-      shuffle a b c d = assoc a b (op c d) ∙ (ap (op a) (sym (assoc b c d) ∙ (ap (λ x. op x d) (comm b c) ∙ assoc c b d)) ∙ sym (assoc a c (op b d)))
+      shuffle a b c d = cc (assoc a b (op c d), assoc b c d, comm b c, assoc c b d, assoc a c (op b d))
 
   below_nothing : (n : ℕ) → B n (λ k. e) ≡ e
   below_nothing zero = none (λ k. e)
-  below_nothing (suc n) = more n (λ k. e) ∙ (ap (λ x. op x e) (below_nothing n) ∙ left e)
+  below_nothing (suc n) = cc (more n (λ k. e), below_nothing n, left e)
 
   below_swapped : (m n : ℕ) (f : ℕ → ℕ → A) → B m (λ r. B n (λ c. f r c)) ≡ B n (λ c. B m (λ r. f r c))
   below_swapped zero n f = none (λ r. B n (λ c. f r c)) ∙ (sym (below_nothing n) ∙ below_same n (λ c. e) (λ c. B zero (λ r. f r c)) (λ c l. sym (none (λ r. f r c))))
@@ -187,16 +186,6 @@ module _ (m n : ℕ) (rows_some : 1 ≤ m) (columns_some : 1 ≤ n) (old new iw 
 
 -- ---- tests
 
-or_assoc : (x y z : Bool) → ((x || y) || z) ≡ (x || (y || z))
-or_assoc true y z = refl
-or_assoc false y z = refl
-
-pub or_comm : (x y : Bool) → (x || y) ≡ (y || x)
-or_comm true true = refl
-or_comm true false = refl
-or_comm false true = refl
-or_comm false false = refl
-
 pub some_same : (n : ℕ) (f g : ℕ → Bool) → ((k : ℕ) → k < n → f k ≡ g k) → some_below n f ≡ some_below n g
 some_same = below_same false ◌||◌ some_below (λ f. refl) (λ n f. refl) (λ x. refl) or_assoc or_comm
 
@@ -213,16 +202,11 @@ pub none_below : (n : ℕ) (p : ℕ → Bool) → some_below n p ≡ false → (
 none_below zero p e k h = absurd (omega arith)
 none_below (suc n) p e k h =
     let parts = or_parts (some_below n p) (p n) e in
-    elim (cases_lt k n) [
-      | inl l ↦ none_below n p parts.0 k l
-      | inr l ↦ let q : n ≡ k = omega arith in subst (λ j. p j ≡ false) q parts.1
-    ]
+    ⊎_elim (λ l. none_below n p parts.0 k l) (λ l. subst (λ j. p j ≡ false) (omega arith) parts.1) (cases_lt k n)
 
 pub no_place : (t : Table) (p : ℕ → ℕ → Bool) → some_place t p ≡ false → (r c : ℕ) → r < t.rows → c < t.columns → p r c ≡ false
 no_place t p e r c h g = none_below t.columns (λ x. p r x) (none_below t.rows (λ y. some_below t.columns (λ x. p y x)) e r h) c g
 
 pub no_hand : (p : Hand → Bool) → some_hand p ≡ false → (hand : Hand) → p hand ≡ false
-no_hand p e West = (or_parts (p West) _ (or_parts (p West || p East) _ e).0).0
-no_hand p e East = (or_parts (p West) _ (or_parts (p West || p East) _ e).0).1
-no_hand p e South = (or_parts (p South) _ (or_parts (p West || p East) _ e).1).0
-no_hand p e North = (or_parts (p South) _ (or_parts (p West || p East) _ e).1).1
+no_hand p e West = grind (arith, or_parts)
+no_hand p e hand = grind (arith, or_parts)

@@ -18,8 +18,8 @@ use Rattle.book.specs.Step.{Rules, thrust, all_hands, speed, past_brim, water, p
 use Rattle.book.specs.Turns.{turned_hand, turned_cell}
 use Rattle.book.proofs.Sound.{Ranged, FacingBoth}
 use Rattle.rules.specs.Ints.{mul_neg, quot_neg}
-use Rattle.book.proofs.Numbers.{abs_neg, share_neg, velocity_neg, speed_neg, thinned_neg, friction_speed_neg_east, friction_speed_neg_north, friction_speed_swap, carried_swap, less_neg}
-use Rattle.book.proofs.Sums.{or_comm}
+use Rattle.book.proofs.Numbers.{share_neg, velocity_neg, speed_neg, thinned_neg, friction_speed_neg_east, friction_speed_neg_north, friction_speed_swap, carried_swap}
+use Rattle.std.proofs.Math.Bool.{or_comm}
 use Rattle.book.proofs.Steps.{below_brim, slowing}
 use Rattle.book.proofs.TurnedFaces.{flip, counter, turned_face}
 
@@ -27,7 +27,7 @@ use Rattle.book.proofs.TurnedFaces.{flip, counter, turned_face}
 
 pace_exchanged : (dl : ℕ) (nl : ℤ) (dr : ℕ) (nr : ℤ) → face_pace dr (neg_ℤ nr) dl (neg_ℤ nl) ≡ face_pace dl nl dr nr
 unfolding face_pace pace_of
-pace_exchanged dl nl dr nr = let e = abs_neg nl in let f = abs_neg nr in omega arith
+pace_exchanged dl nl dr nr = omega (arith, ints)
 
 pub pace_turned : (τ : Turn) (hand : Hand) (f : Face) → pace (turned_face τ hand f) ≡ pace f
 pace_turned τ hand f = go τ hand
@@ -157,7 +157,7 @@ module _ (rules : Rules) (flux : LawfulFlux rules.water rules.push) where
         ∙ thrust_swap (pressed rules cell.depth East (F East)) (pressed rules cell.depth West (F West)) (carried rules (F South)) (carried rules (F North))
 
     raw_reversed : (k : ℕ) (q z z' : ℤ) → z' ≡ neg_ℤ z → neg_ℤ q -ℤ share z' (20 * k) ≡ neg_ℤ (q -ℤ share z (20 * k))
-    raw_reversed k q z z' e = ap (λ x. neg_ℤ q -ℤ x) (ap (λ x. share x (20 * k)) e ∙ share_neg z (20 * k)) ∙ less_neg q (share z (20 * k))
+    raw_reversed k q z z' e = rw (e, share_neg) (omega (arith, ints))
 
     module _ (k : ℕ) where
       depth_turned : (τ : Turn) → depth_after rules (turned_cell τ cell) (turned_faces τ F) k ≡ depth_after rules cell F k

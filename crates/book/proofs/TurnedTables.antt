@@ -1,6 +1,6 @@
 -- The parts of a turned table: its places, its lists of cells and of sides, and sums and tests along its sides.
 use Rattle.std.proofs.Common.{◌≡◌, ℕ, ◌+◌, ◌-◌, ◌*◌, ◌<◌, ◌≤◌, Bool, ◌||◌, ltb, List, [], ◌∷◌, map, length, get_or, set, replicate, sym, refl, ap, ◌∙◌, subst, ap₂, inl, inr, arith}
-use Rattle.std.proofs.lemmas.List.{length-map, length-set, get_or-set_same, get_or-set_other, length-replicate, get_or-replicate}
+use Rattle.std.proofs.lemmas.List.{length-map, length-set, get_or-set_other, length-replicate, get_or-replicate}
 use Rattle.std.proofs.lemmas.Bool.{cases_eq}
 use Rattle.book.specs.declared.cell.Cell.{Cell}
 use Rattle.book.specs.declared.side.Hand.{Hand}
@@ -15,8 +15,11 @@ use Rattle.book.specs.Sheets.{Table, Place, cell_at, no_cell, side_number, some_
 use Rattle.book.specs.Calls.{held_over}
 use Rattle.book.specs.Turns.{mirrored, turned_rows, turned_columns, turned_place, turned_hand, turned_cell, turned_table}
 use Rattle.book.proofs.Sound.{Sound}
-use Rattle.book.proofs.Sums.{mirrored_in, mirrored_below, mirrored_twice, sum_turned, some_same, some_mirrored, or_comm}
-use Rattle.book.proofs.Grids.{map_at, place_below, length_grid, grid_from, one_row, one_column}
+use Rattle.book.proofs.Sums.{mirrored_in, mirrored_below, mirrored_twice, sum_turned, some_same, some_mirrored}
+use Rattle.std.proofs.Math.Bool.{or_comm}
+use Rattle.book.proofs.Grids.{map_at, place_below, length_grid, grid_from}
+use Rattle.std.proofs.lemmas.Nat.{same_from_place}
+use Rattle.std.proofs.lemmas.Grind.{get_or-set_at}
 use Rattle.book.proofs.Neighbours.{rows_some, columns_some}
 use Rattle.book.proofs.TurnedFaces.{high, wide, came, came_cell, came_row, came_column, cell_turned}
 use Rattle.book.proofs.TurnedCells.{depth_kept}
@@ -155,16 +158,14 @@ module _ (τ : Turn) (t : Table) where
   number_came : (r c i j : ℕ) → r < t.rows → c < t.columns → i < high τ t → j < wide τ t →
       i * wide τ t + j ≡ sent_number r c → came_number i j ≡ r * t.columns + c
   number_came r c i j h k l m e =
-      let e₁ : i ≡ (sent τ t r c).row = one_row (wide τ t) i j (sent τ t r c).row (sent τ t r c).column m (sent_column τ t r c h k) e in
-      let e₂ : j ≡ (sent τ t r c).column = one_column (wide τ t) i j (sent τ t r c).row (sent τ t r c).column m (sent_column τ t r c h k) e in
-      ap (λ (p : Place). p.row * t.columns + p.column) (ap₂ (came τ t) e₁ e₂ ∙ came_sent τ t r c h k)
+      let at = same_from_place i j (sent τ t r c).row (sent τ t r c).column (wide τ t) m (sent_column τ t r c h k) e in
+      ap (λ (p : Place). p.row * t.columns + p.column) (ap₂ (came τ t) at.0 at.1 ∙ came_sent τ t r c h k)
 
   number_sent : (r c i j : ℕ) → r < t.rows → c < t.columns → i < high τ t → j < wide τ t →
       came_number i j ≡ r * t.columns + c → i * wide τ t + j ≡ sent_number r c
   number_sent r c i j h k l m e =
-      let e₁ : (came τ t i j).row ≡ r = one_row t.columns (came τ t i j).row (came τ t i j).column r c (came_column τ t i j l m) k e in
-      let e₂ : (came τ t i j).column ≡ c = one_column t.columns (came τ t i j).row (came τ t i j).column r c (came_column τ t i j l m) k e in
-      ap (λ (p : Place). p.row * wide τ t + p.column) (sym (sent_came τ t i j l m) ∙ ap₂ (sent τ t) e₁ e₂)
+      let at = same_from_place (came τ t i j).row (came τ t i j).column r c t.columns (came_column τ t i j l m) k e in
+      ap (λ (p : Place). p.row * wide τ t + p.column) (sym (sent_came τ t i j l m) ∙ ap₂ (sent τ t) at.0 at.1)
 
   -- one cell laid
   module _ (r c : ℕ) (x : Cell) (h : r < t.rows) (k : c < t.columns) (len : length t.cells ≡ t.rows * t.columns) where
@@ -172,11 +173,10 @@ module _ (τ : Turn) (t : Table) where
         get_or (set (turned_table τ t).cells (sent_number r c) (turned_cell τ x)) (i * wide τ t + j) no_cell
         ≡ turned_cell τ (get_or (set t.cells (r * t.columns + c) x) (came_number i j) no_cell)
     laid_here i j l m e =
-        ap (λ n. get_or (set (turned_table τ t).cells (sent_number r c) (turned_cell τ x)) n no_cell) e
-        ∙ (get_or-set_same (turned_table τ t).cells (sent_number r c) (turned_cell τ x) no_cell
+        get_or-set_at (turned_table τ t).cells (sent_number r c) (i * wide τ t + j) (turned_cell τ x) no_cell e
         (subst (λ n. sent_number r c < n) (sym whole) (place_below (high τ t) (wide τ t) (sent τ t r c).row (sent τ t r c).column (sent_row τ t r c h k) (sent_column τ t r c h k)))
-        ∙ ap (turned_cell τ) (sym (ap (λ n. get_or (set t.cells (r * t.columns + c) x) n no_cell) (number_came r c i j h k l m e)
-        ∙ get_or-set_same t.cells (r * t.columns + c) x no_cell (subst (λ n. r * t.columns + c < n) (sym len) (place_below t.rows t.columns r c h k)))))
+        ∙ ap (turned_cell τ) (sym (get_or-set_at t.cells (r * t.columns + c) (came_number i j) x no_cell (number_came r c i j h k l m e)
+        (subst (λ n. r * t.columns + c < n) (sym len) (place_below t.rows t.columns r c h k))))
 
     laid_there : (i j : ℕ) → i < high τ t → j < wide τ t → (i * wide τ t + j ≡ sent_number r c → ⊥) →
         get_or (set (turned_table τ t).cells (sent_number r c) (turned_cell τ x)) (i * wide τ t + j) no_cell

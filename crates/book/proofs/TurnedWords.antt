@@ -13,7 +13,8 @@ use Rattle.book.specs.Calls.{fresh, at_rest, rained, soaked, hand_of}
 use Rattle.book.specs.Turns.{mirrored, turned_rows, turned_columns, turned_hand, turned_cell, turned_table, turned_account, turned_number}
 use Rattle.rules.specs.Ints.{mul_neg}
 use Rattle.book.proofs.Numbers.{velocity_neg, thinned_neg}
-use Rattle.book.proofs.Sums.{mirrored_in, or_comm}
+use Rattle.book.proofs.Sums.{mirrored_in}
+use Rattle.std.proofs.Math.Bool.{or_comm}
 use Rattle.book.proofs.Neighbours.{hand_there, number_below}
 use Rattle.book.proofs.TurnedTables.{sent}
 
