@@ -1,5 +1,5 @@
 -- The account adds up: all water that stands, soaked away or left is what was poured, rained or came in.
-use Rattle.std.proofs.Common.{◌≡◌, ℕ, suc, ◌+◌, ◌<◌, min, false, List, [], ◌∷◌, map, neg_ℤ, sym, refl, ap, ◌∙◌, subst, inl, inr, add-one, arith}
+use Rattle.std.proofs.Common.{◌≡◌, ℕ, suc, ◌+◌, ◌<◌, min, false, List, map, neg_ℤ, sym, refl, ap, ◌∙◌, subst, ⊎_elim, add-one, arith}
 use lib.IntN.{neg_ℤ-neg_ℤ}
 use Rattle.book.specs.declared.cell.Cell.{Cell}
 use Rattle.book.specs.declared.side.Hand.{Hand}
@@ -14,15 +14,15 @@ use Rattle.book.specs.Faces.{column, meet}
 use Rattle.book.specs.Step.{Rules, water}
 use Rattle.book.specs.Sheets.{Table, cell_at, seen, face, span, leaves, arrives, sum_places, sum_side, with_cells, standing, too_slow, stepped}
 use Rattle.book.specs.Accounts.{account_after_step, rain_more, soak_more}
-use Rattle.book.specs.Calls.{Book, Stage, start, preparing, serving, closed, soaked, rained, at_rest, stage_of, faults, accepted, empty_book, answer, after, soaked_away, book_after, rained_on}
+use Rattle.book.specs.Calls.{Book, Stage, start, preparing, serving, closed, soaked, rained, at_rest, stage_of, faults, accepted, empty_book, soaked_away, book_after, rained_on}
 use Rattle.book.proofs.Sound.{Sound, SoundAt, SoundBook}
 use Rattle.book.specs.Laws.{Balanced, Opened}
 use Rattle.book.proofs.Sums.{sheet_balance, total_same, total_add, total_even}
 use Rattle.book.proofs.Grids.{map_at}
 use Rattle.book.proofs.Neighbours.{east_some, north_some, rows_some, columns_some}
-use Rattle.book.proofs.Judged.{NoneThere, answer_book}
+use Rattle.book.proofs.Judged.{NoneThere, after_book}
 use Rattle.book.proofs.Steps.{not_overdrawn, stepped_exact}
-use Rattle.book.proofs.Soundness.{answer_sound}
+use Rattle.book.proofs.Soundness.{sound_kept}
 
 -- ---- a face seen from both its cells
 
@@ -122,18 +122,12 @@ module _ (rules : Rules) (flux : LawfulFlux rules.water rules.push) (friction : 
   accepted_balanced b AskSlowestRate h s g n = h
   accepted_balanced b x h s g n = g
 
-  answer_balanced : (b : Book) (x : Call) → SoundBook b → BalancedBook b → BalancedBook (answer rules b x).book
-  answer_balanced b x s h =
-      answer_book rules BalancedBook b x h
-      (λ e n. accepted_balanced b x h (subst (λ z. SoundAt z b.table) e s) (subst (λ z. BalancedAt z b.table b.account) e h) n)
-
-  after_balanced : (b : Book) (calls : List Call) → SoundBook b → BalancedBook b → BalancedBook (after rules b calls)
-  after_balanced b [] s h = h
-  after_balanced b (x ∷ xs) s h = after_balanced (answer rules b x).book xs (answer_sound rules friction b x s) (answer_balanced b x s h)
-
-  balanced_open : (b : Book) → Opened b → BalancedBook b → Balanced b
-  balanced_open b (inl e) h = subst (λ z. BalancedAt z b.table b.account) e h
-  balanced_open b (inr e) h = subst (λ z. BalancedAt z b.table b.account) e h
-
   pub balanced : (calls : List Call) → Opened (book_after rules calls) → Balanced (book_after rules calls)
-  balanced calls e = balanced_open (book_after rules calls) e (after_balanced empty_book calls refl tt)
+  balanced calls e = ⊎_elim at at e
+    where
+      at : {s : Stage} → (book_after rules calls).stage ≡ s → BalancedAt s (book_after rules calls).table (book_after rules calls).account
+      at e =
+          subst (λ z. BalancedAt z (book_after rules calls).table (book_after rules calls).account) e
+          (after_book rules (λ b. SoundBook b × BalancedBook b)
+          (λ b x h e n. (sound_kept rules friction b x h.0 e n, accepted_balanced b x h.1 (subst (λ z. SoundAt z b.table) e h.0) (subst (λ z. BalancedAt z b.table b.account) e h.1) n))
+          empty_book calls (refl, tt)).1

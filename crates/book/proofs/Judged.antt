@@ -7,7 +7,7 @@ use Rattle.book.specs.declared.refusal.Refusal.{Refusal}
 use Rattle.book.specs.declared.refusal.Refusal.TheVariants.{OutOfStage}
 use Rattle.book.specs.declared.reply.Reply.TheVariants.{Done, Refused}
 use Rattle.book.specs.Step.{Rules}
-use Rattle.book.specs.Calls.{Book, Stage, start, preparing, serving, closed, Page, Fault, fault, unchanged, stage_of, stage_number, fits, judged, faults, accepted, answer}
+use Rattle.book.specs.Calls.{Book, Stage, start, preparing, serving, closed, Page, Fault, fault, unchanged, stage_of, stage_number, fits, judged, faults, accepted, answer, after}
 use Rattle.book.specs.Laws.{is_refusal, InOrder}
 
 -- ---- the stage
@@ -39,6 +39,11 @@ module _ (rules : Rules) where
   -- what holds of the book and of what an accepted call makes of it holds of the answer's
   pub answer_book : (P : Book → Type 0) (b : Book) (x : Call) → P b → (b.stage ≡ stage_of x → NoneThere (faults rules b x) → P (accepted rules b x).book) → P (answer rules b x).book
   answer_book P b x h g = answer_page (λ p. P p.book) b x (λ _. h) g
+
+  -- and then, from any book that has it, of the book after a list of calls
+  pub after_book : (P : Book → Type 0) → ((b : Book) (x : Call) → P b → b.stage ≡ stage_of x → NoneThere (faults rules b x) → P (accepted rules b x).book) → (b : Book) (calls : List Call) → P b → P (after rules b calls)
+  after_book P g b [] h = h
+  after_book P g b (x ∷ xs) h = after_book P g (answer rules b x).book xs (answer_book P b x h (g b x h))
 
   -- a call that is done fits the stage and has no fault, and the book is what it makes of it
   pub answer_done : (b : Book) (x : Call) → (answer rules b x).reply ≡ Done → (b.stage ≡ stage_of x) × NoneThere (faults rules b x)

@@ -1,8 +1,8 @@
 -- Every list of calls leaves a sound table; no step overdraws a cell.
-use Rattle.std.proofs.Common.{◌≡◌, ℕ, zero, suc, ◌+◌, ◌*◌, ◌<◌, ◌≤◌, true, false, ltb, List, [], ◌∷◌, map, length, get_or, set, ℤ, pos, negsuc, nat_abs, sym, refl, ap, ◌∙◌, subst, ⊎_elim, zero-le, arith}
+use Rattle.std.proofs.Common.{◌≡◌, ℕ, zero, suc, ◌+◌, ◌*◌, ◌<◌, ◌≤◌, true, false, ltb, List, map, length, get_or, set, ℤ, pos, negsuc, nat_abs, sym, refl, ap, ◌∙◌, subst, ⊎_elim, zero-le, arith}
 use Rattle.std.proofs.lemmas.Grind.{get_or-set_at}
 use Rattle.std.proofs.lemmas.List.{get_or-set_other, get_or-replicate, length-set, length-map, length-replicate}
-use Rattle.std.proofs.lemmas.Bool.{ltb-false, cases_eq, or_parts, true≢false}
+use Rattle.std.proofs.lemmas.Bool.{ltb-false, cases_eq, or_parts}
 use Rattle.book.specs.declared.cell.Cell.{Cell}
 use Rattle.book.specs.declared.side.Hand.{Hand}
 use Rattle.book.specs.declared.side.Hand.TheVariants.{West}
@@ -18,14 +18,14 @@ use Rattle.book.specs.Numbers.{positive}
 use Rattle.book.specs.Faces.{held_depth}
 use Rattle.book.specs.Step.{Rules}
 use Rattle.book.specs.Sheets.{Table, cell_at, no_cell, side_at, side_number, span, face, border_length, border_cell, leaving, new_cell, over_brim, grid, with_cells, with_sides, four_walls, blank, stepped, arriving}
-use Rattle.book.specs.Calls.{Book, Stage, start, preparing, serving, closed, empty_book, fresh, held_over, hand_of, side_of, side_amiss, soaked, rained, at_rest, stage_of, faults, accepted, answer, after, book_after}
+use Rattle.book.specs.Calls.{Book, Stage, start, preparing, serving, empty_book, fresh, held_over, hand_of, side_of, side_amiss, soaked, rained, at_rest, stage_of, faults, accepted, answer, book_after}
 use Rattle.book.proofs.Sound.{Ranged, Sound, GhostKept, SoundAt, SoundBook}
 use Rattle.book.specs.Laws.{OnSheet}
 use Rattle.book.proofs.Numbers.{inside, bed_inside}
 use Rattle.book.proofs.Sums.{none_below, no_place}
 use Rattle.book.proofs.Grids.{grid_at, length_grid, map_at, set_at, place_below}
 use Rattle.book.proofs.Neighbours.{hand_there, number_below, border_row, border_column}
-use Rattle.book.proofs.Judged.{NoneThere, answer_book, answer_done, answer_accepted}
+use Rattle.book.proofs.Judged.{NoneThere, answer_book, after_book, answer_done, answer_accepted}
 use Rattle.book.proofs.Steps.{still_ranged, soaked_ranged, rained_ranged, new_ranged, not_overdrawn, stepped_exact}
 
 -- ---- cells changed, beds kept
@@ -84,17 +84,15 @@ Allowed (Fed a b) = (1 ≤ a) × (a ≤ max_depth) × (b ≤ max_velocity)
 
 fed_depth : (a : ℤ) → outsideℤ (pos 1) (pos max_depth) a ≡ false → (1 ≤ positive a) × (positive a ≤ max_depth)
 fed_depth (pos n) e = inside 1 max_depth n e
-fed_depth (negsuc n) e = absurd (true≢false e)
+fed_depth (negsuc n) e = cc
 
 side_allowed : (kind : ℕ) (a : ℤ) (b : ℕ) → side_amiss kind a b ≡ false → Allowed (side_of kind a b)
-side_allowed zero a b e = tt
-side_allowed (suc zero) a b e = tt
-side_allowed (suc (suc zero)) a b e = tt
 side_allowed (suc (suc (suc zero))) a b e =
     let o = or_parts (outsideℤ (pos 1) (pos max_depth) a) (outside 1 max_velocity b) e in
     let d = fed_depth a o.0 in
     (d.0, d.1, (inside 1 max_velocity b o.1).1)
-side_allowed (suc (suc (suc (suc n)))) a b e = absurd (true≢false e)
+side_allowed (suc (suc (suc (suc n)))) a b e = cc
+side_allowed kind a b e = tt
 
 module _ (t : Table) (sound : Sound t) (hand : Hand) (s : Side) (allowed : Allowed s) (over : held_over t hand s ≡ false) where
   -- the ghosts beyond the side that is set
@@ -171,23 +169,21 @@ module _ (rules : Rules) (friction : LawfulFriction rules.slowed) where
   accepted_sound b Close h s n = s
   accepted_sound b x h s n = h
 
-  pub answer_sound : (b : Book) (x : Call) → SoundBook b → SoundBook (answer rules b x).book
-  answer_sound b x h = answer_book rules SoundBook b x h (λ e n. accepted_sound b x h (subst (λ s. SoundAt s b.table) e h) n)
+  pub sound_kept : (b : Book) (x : Call) → SoundBook b → b.stage ≡ stage_of x → NoneThere (faults rules b x) → SoundBook (accepted rules b x).book
+  sound_kept b x h e n = accepted_sound b x h (subst (λ s. SoundAt s b.table) e h) n
 
-  after_sound : (b : Book) (calls : List Call) → SoundBook b → SoundBook (after rules b calls)
-  after_sound b [] h = h
-  after_sound b (x ∷ xs) h = after_sound (answer rules b x).book xs (answer_sound b x h)
+  pub answer_sound : (b : Book) (x : Call) → SoundBook b → SoundBook (answer rules b x).book
+  answer_sound b x h = answer_book rules SoundBook b x h (sound_kept b x h)
 
   pub book_sound : (calls : List Call) → SoundBook (book_after rules calls)
-  book_sound calls = after_sound empty_book calls refl
+  book_sound calls = after_book rules SoundBook sound_kept empty_book calls refl
 
 -- ---- at any stage
 
-pub ranged_at : (s : Stage) (t : Table) → SoundAt s t → (r c : ℕ) → r < t.rows → c < t.columns → Ranged (cell_at t r c)
-ranged_at start t h r c p q = let z : t.rows ≡ 0 = ap (λ (u : Table). u.rows) h in absurd (omega arith)
-ranged_at preparing t h r c p q = h.0.ranged r c p q
-ranged_at serving t h r c p q = h.ranged r c p q
-ranged_at closed t h r c p q = h.ranged r c p q
+pub sound_at : (s : Stage) (t : Table) → SoundAt s t → 0 < t.rows → Sound t
+sound_at start t h p = let z : t.rows ≡ 0 = ap (λ (u : Table). u.rows) h in absurd (omega arith)
+sound_at preparing t h p = h.0
+sound_at s t h p = h
 
 pub sound_serving : (b : Book) → b.stage ≡ serving → SoundBook b → Sound b.table
 sound_serving b e h = subst (λ s. SoundAt s b.table) e h
