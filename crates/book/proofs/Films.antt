@@ -21,7 +21,7 @@ record Thin (k : Cell) : Type 0 where
   north : k.depth < film → k.north ≡ pos 0
 
 thinned_none : (h : ℕ) (q : ℤ) → h < film → thinned h q ≡ pos 0
-thinned_none h q l = rw (lt-ltb h film l)
+thinned_none h q l = rw lt-ltb
 
 still_thin : (k : Cell) → k.east ≡ pos 0 → k.north ≡ pos 0 → Thin k
 still_thin k e n = record { east = λ _. e; north = λ _. n }

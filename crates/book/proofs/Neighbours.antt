@@ -1,13 +1,12 @@
 -- Hands and places: the number of a hand, the places along a side, and what lies to each hand of a place.
-use Rattle.std.proofs.Common.{◌≡◌, ℕ, zero, suc, ◌+◌, ◌-◌, ◌<◌, ◌≤◌, ltb, Some, None, Option, refl, ap, ◌∙◌, subst, arith}
-use Rattle.std.proofs.lemmas.Bool.{ltb-true, ltb-false, lt-ltb, le-ltb, or_parts, cond-true, cond-false, cond_both}
+use Rattle.std.proofs.Common.{◌≡◌, ℕ, zero, suc, ◌+◌, ◌-◌, ◌<◌, ◌≤◌, ltb, Some, None, Option, refl, subst, arith}
+use Rattle.std.proofs.lemmas.Bool.{ltb-true, ltb-false, lt-ltb, le-ltb, or_parts, cond_both}
+use Rattle.std.proofs.lemmas.Bool.Decides.{nat_tests}
 use Rattle.book.specs.declared.side.Hand.{Hand}
 use Rattle.book.specs.declared.side.Hand.TheVariants.{West, East, South, North}
-use Rattle.book.specs.Ranges.{outside}
 use Rattle.book.specs.Sheets.{Table, Place, side_number, cell_at, side_at, neighbour, border_length, border_place}
 use Rattle.book.specs.Calls.{hand_of}
 use Rattle.book.proofs.Sound.{Sound, GhostKept}
-use Rattle.book.proofs.Numbers.{inside}
 
 pub hand_there : (hand : Hand) → hand_of (side_number hand) ≡ hand
 hand_there West = refl
@@ -19,10 +18,10 @@ number_below hand = omega arith
 
 -- a sheet has a row and a column
 pub rows_some : (t : Table) → Sound t → 1 ≤ t.rows
-rows_some t sound = (inside 1 64 t.rows (or_parts (outside 1 64 t.rows) _ (or_parts _ _ sound.size).0).0).0
+rows_some t sound = grind (arith, or_parts, nat_tests, sound.size)
 
 pub columns_some : (t : Table) → Sound t → 1 ≤ t.columns
-columns_some t sound = (inside 1 64 t.columns (or_parts (outside 1 64 t.rows) _ (or_parts _ _ sound.size).0).1).0
+columns_some t sound = grind (arith, or_parts, nat_tests, sound.size)
 
 -- a place along a side is on the sheet
 pub border_row : (t : Table) → Sound t → (hand : Hand) (k : ℕ) → k < border_length t.rows t.columns hand → (border_place t.rows t.columns hand k).row < t.rows
@@ -40,28 +39,28 @@ border_column t sound North k h = h
 -- ---- the neighbour to a hand, or none
 
 pub west_none : (t : Table) (r c : ℕ) → c ≡ 0 → neighbour t r c West ≡ None
-west_none t r c e = ap (λ n. neighbour t r n West) e
+west_none t r c e = rw e
 
 pub west_some : (t : Table) (r c m : ℕ) → c ≡ suc m → neighbour t r c West ≡ Some (record { row = r; column = m })
-west_some t r c m e = ap (λ n. neighbour t r n West) e
+west_some t r c m e = rw e
 
 pub east_none : (t : Table) (r c : ℕ) → t.columns ≤ c + 1 → neighbour t r c East ≡ None
-east_none t r c h = cond-false (ltb (c + 1) t.columns) (Some (record { row = r; column = c + 1 })) None (le-ltb (c + 1) t.columns h)
+east_none t r c h = rw le-ltb
 
 pub east_some : (t : Table) (r c m : ℕ) → m < t.columns → c + 1 ≡ m → neighbour t r c East ≡ Some (record { row = r; column = m })
-east_some t r c m h e = cond-true (ltb (c + 1) t.columns) (Some (record { row = r; column = c + 1 })) None (lt-ltb (c + 1) t.columns (omega arith)) ∙ ap (λ n. Some (record { row = r; column = n })) e
+east_some t r c m h e = rw (e, lt-ltb)
 
 pub south_none : (t : Table) (r c : ℕ) → r ≡ 0 → neighbour t r c South ≡ None
-south_none t r c e = ap (λ n. neighbour t n c South) e
+south_none t r c e = rw e
 
 pub south_some : (t : Table) (r c m : ℕ) → r ≡ suc m → neighbour t r c South ≡ Some (record { row = m; column = c })
-south_some t r c m e = ap (λ n. neighbour t n c South) e
+south_some t r c m e = rw e
 
 pub north_none : (t : Table) (r c : ℕ) → t.rows ≤ r + 1 → neighbour t r c North ≡ None
-north_none t r c h = cond-false (ltb (r + 1) t.rows) (Some (record { row = r + 1; column = c })) None (le-ltb (r + 1) t.rows h)
+north_none t r c h = rw le-ltb
 
 pub north_some : (t : Table) (r c m : ℕ) → m < t.rows → r + 1 ≡ m → neighbour t r c North ≡ Some (record { row = m; column = c })
-north_some t r c m h e = cond-true (ltb (r + 1) t.rows) (Some (record { row = r + 1; column = c })) None (lt-ltb (r + 1) t.rows (omega arith)) ∙ ap (λ n. Some (record { row = n; column = c })) e
+north_some t r c m h e = rw (e, lt-ltb)
 
 -- ---- in a sound table: the neighbour is on the sheet, or the cell stands at that side
 

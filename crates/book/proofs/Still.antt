@@ -13,10 +13,10 @@ use Rattle.book.specs.declared.call.Call.{Call}
 use Rattle.book.specs.declared.call.Call.TheVariants.{Step, AskCell, AskAccount, AskStanding, AskSlowestRate}
 use Rattle.rules.specs.Flux.{LawfulFlux}
 use Rattle.rules.specs.Friction.{LawfulFriction}
-use Rattle.rules.specs.Side.{Facing, discharge, momentum}
+use Rattle.rules.specs.Side.{discharge, momentum}
 use Rattle.book.specs.Ranges.{max_rate}
-use Rattle.book.specs.Numbers.{film, thinned, share, greater}
-use Rattle.book.specs.Faces.{Column, Face, column, ghost, above, meet, face_of, own_depth}
+use Rattle.book.specs.Numbers.{film, thinned, share}
+use Rattle.book.specs.Faces.{Column, Face, column, ghost, meet, face_of, own_depth}
 use Rattle.book.specs.Step.{Rules, thrust, speed, water, push, carried, pressed, east_thrust, north_thrust, depth_after, raw_east, raw_north, cell_after}
 use Rattle.book.specs.Sheets.{Table, Place, cell_at, side_at, span, neighbour, seen, beyond, face, new_cell, grid, with_cells}
 use Rattle.book.specs.Accounts.{passed_by, account_after_step}
@@ -67,29 +67,16 @@ record Level (f : Face) : Type 0 where
   facing : FacingBoth f
 
 module _ (rules : Rules) (flux : LawfulFlux rules.water rules.push) where
-  level_water : (dl : ℕ) (nl : ℤ) (dr : ℕ) (nr : ℤ) → Facing dl nl → dl ≡ dr → nl ≡ pos 0 → nr ≡ pos 0 → rules.water dl nl dr nr ≡ pos 0
-  level_water dl nl dr nr f e p q =
-      let g : Facing dl (pos 0) = rw p at f in
-      cc (flux.even_water dl (pos 0) g, no_discharge dl)
-
-  level_push : (dl : ℕ) (nl : ℤ) (dr : ℕ) (nr : ℤ) → Facing dl nl → dl ≡ dr → nl ≡ pos 0 → nr ≡ pos 0 → rules.push dl nl dr nr ≡ pos (981 * (dl * dl))
-  level_push dl nl dr nr f e p q =
-      let g : Facing dl (pos 0) = rw p at f in
-      cc (flux.even_push dl (pos 0) g, weight_only dl)
-
   no_water : (f : Face) → Level f → water rules f ≡ pos 0
-  no_water f l = level_water f.left.depth f.left.normal f.right.depth f.right.normal l.facing.left l.even l.calm.left_normal l.calm.right_normal
+  no_water f l = cc (flux.even_water f.left.depth f.left.normal l.facing.left, no_discharge f.left.depth)
 
   own_left : (hand : Hand) (f : Face) → Level f → own_depth hand f ≡ f.left.depth
-  own_left West f l = sym l.even
-  own_left East f l = refl
-  own_left South f l = sym l.even
-  own_left North f l = refl
+  own_left West f l = cc
+  own_left hand f l = cc
 
   level_pressed : (h : ℕ) (hand : Hand) (f : Face) → Level f → pressed rules h hand f ≡ pos (981 * (h * h))
   level_pressed h hand f l =
-      held_back (push rules f) (own_depth hand f) f.left.depth h
-      (level_push f.left.depth f.left.normal f.right.depth f.right.normal l.facing.left l.even l.calm.left_normal l.calm.right_normal) (own_left hand f l)
+      held_back (push rules f) (own_depth hand f) f.left.depth h (cc (flux.even_push f.left.depth f.left.normal l.facing.left, weight_only f.left.depth)) (own_left hand f l)
 
   none_carried : (f : Face) → Level f → carried rules f ≡ pos 0
   none_carried f l = carried_none (water rules f) f.left.along f.right.along (no_water f l)
@@ -97,15 +84,9 @@ module _ (rules : Rules) (flux : LawfulFlux rules.water rules.push) where
   module _ (friction : LawfulFriction rules.slowed) (cell : Cell) (faces : Hand → Face) (level : (hand : Hand) → Level (faces hand)) (still_east : cell.east ≡ pos 0) (still_north : cell.north ≡ pos 0) (k : ℕ) where
     same_depth : depth_after rules cell faces k ≡ cell.depth
     same_depth =
-        let a = none_gives rules k (faces West) (no_water (faces West) (level West)) West in
-        let b = none_gives rules k (faces East) (no_water (faces East) (level East)) East in
-        let c = none_gives rules k (faces South) (no_water (faces South) (level South)) South in
-        let d = none_gives rules k (faces North) (no_water (faces North) (level North)) North in
-        let e = none_takes rules k (faces West) (no_water (faces West) (level West)) West in
-        let f = none_takes rules k (faces East) (no_water (faces East) (level East)) East in
-        let g = none_takes rules k (faces South) (no_water (faces South) (level South)) South in
-        let h = none_takes rules k (faces North) (no_water (faces North) (level North)) North in
-        omega arith
+        let g = λ (hand : Hand). none_gives rules k (faces hand) (no_water (faces hand) (level hand)) hand in
+        let t = λ (hand : Hand). none_takes rules k (faces hand) (no_water (faces hand) (level hand)) hand in
+        omega (arith, g West, g East, g South, g North, t West, t East, t South, t North)
 
     no_raw_east : raw_east rules cell faces k ≡ pos 0
     no_raw_east =
@@ -133,29 +114,21 @@ module _ (rules : Rules) (flux : LawfulFlux rules.water rules.push) where
 -- ---- the faces of a still table
 
 column_still : (hand : Hand) (k : Cell) → k.east ≡ pos 0 → k.north ≡ pos 0 → (column hand k).normal ≡ pos 0
-column_still West k e n = rw e (velocity_zero k.depth)
-column_still East k e n = rw e (velocity_zero k.depth)
-column_still South k e n = rw n (velocity_zero k.depth)
-column_still North k e n = rw n (velocity_zero k.depth)
+column_still West k e n = cc (velocity_zero k.depth)
+column_still hand k e n = cc (velocity_zero k.depth)
 
 ghost_still : (s : Side) (hand : Hand) (k : Column) → fed s ≡ false → k.normal ≡ pos 0 → (ghost s hand k).normal ≡ pos 0
 ghost_still Wall hand k u n = ap neg_ℤ n
 ghost_still (Fed a b) hand k u n = cc
 ghost_still s hand k u n = n
 
-side_still : (b : ℤ) (k : Column) → k.normal ≡ pos 0 → (above b k).normal ≡ pos 0
-side_still b k n = rw n (where_wet_zero (above b k).depth)
-
 meet_still : (l r : Column) → l.normal ≡ pos 0 → r.normal ≡ pos 0 → Calm (meet l r)
-meet_still l r p q =
-    let b : ℤ = greater l.bed r.bed in
-    record { left_normal = side_still b l p; right_normal = side_still b r q }
+meet_still l r p q = record { left_normal = rw p (where_wet_zero _); right_normal = rw q (where_wet_zero _) }
 
 face_still : (hand : Hand) (own far : Column) → own.normal ≡ pos 0 → far.normal ≡ pos 0 → Calm (face_of hand own far)
 face_still West own far p q = meet_still far own q p
-face_still East own far p q = meet_still own far p q
 face_still South own far p q = meet_still far own q p
-face_still North own far p q = meet_still own far p q
+face_still hand own far p q = meet_still own far p q
 
 module _ (t : Table) (still : Still t) (sound : Sound t) where
   own_still : (r c : ℕ) → r < t.rows → c < t.columns → (hand : Hand) → (column hand (cell_at t r c)).normal ≡ pos 0

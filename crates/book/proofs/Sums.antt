@@ -1,7 +1,7 @@
 -- Sums and tests over the numbers below n, over the places of a sheet and over the four hands; the numbers below n mirrored.
-use Rattle.std.proofs.Common.{◌≡◌, ℕ, zero, suc, ◌+◌, ◌-◌, ◌*◌, ◌<◌, ◌≤◌, Bool, false, ◌||◌, ltb, sym, refl, ap, ◌∙◌, subst, ap₂, ⊎_elim, add_assoc, add_comm, zero-add, arith}
+use Rattle.std.proofs.Common.{◌≡◌, ℕ, zero, suc, ◌+◌, ◌-◌, ◌*◌, ◌<◌, ◌≤◌, Bool, false, ◌||◌, sym, refl, ap, ◌∙◌, subst, ap₂, ⊎_elim, add_assoc, add_comm, zero-add, arith}
 use Rattle.std.proofs.Math.Bool.{or_assoc, or_comm}
-use Rattle.std.proofs.lemmas.Bool.{lt-ltb, cond-true, cases_lt, or_parts}
+use Rattle.std.proofs.lemmas.Bool.{lt-ltb, cases_lt, or_parts}
 use Rattle.book.specs.declared.side.Hand.{Hand}
 use Rattle.book.specs.declared.side.Hand.TheVariants.{West}
 use Rattle.book.specs.declared.turn.Turn.{Turn}
@@ -12,7 +12,7 @@ use Rattle.book.specs.Turns.{mirrored, turned_rows, turned_columns, turned_place
 -- ---- mirrored numbers
 
 pub mirrored_in : (n k : ℕ) → k < n → mirrored n k ≡ n - 1 - k
-mirrored_in n k h = cond-true (ltb k n) (n - 1 - k) k (lt-ltb k n h)
+mirrored_in n k h = rw lt-ltb
 
 pub mirrored_below : (n k : ℕ) → k < n → mirrored n k < n
 mirrored_below n k h = omega (arith, mirrored_in n k h)

@@ -1,6 +1,6 @@
 -- Accounts, cells by themselves, places and numbers of sides, turned.
 use Rattle.std.proofs.Common.{◌≡◌, ℕ, ◌-◌, ◌*◌, ◌<◌, min, Bool, true, false, cond, ◌||◌, ltb, leb, ℤ, pos, ◌*ℤ◌, neg_ℤ, sym, refl, ap, ◌∙◌, inl, inr, mul_comm, arith}
-use Rattle.std.proofs.lemmas.Bool.{lt-leb, le-ltb, leb-false, cond-false, cases_lt, or_parts}
+use Rattle.std.proofs.lemmas.Bool.{lt-leb, le-ltb, leb-false, cases_lt, or_parts}
 use Rattle.book.specs.declared.cell.Cell.{Cell}
 use Rattle.book.specs.declared.account.Account.{Account}
 use Rattle.book.specs.declared.turn.Turn.{Turn}
@@ -79,7 +79,7 @@ leb_mirrored : (n k : ℕ) → leb n (mirrored n k) ≡ leb n k
 leb_mirrored n k =
     elim (cases_lt k n) [
       | inl h ↦ lt-leb n (mirrored n k) (omega (arith, mirrored_in n k h)) ∙ sym (lt-leb n k h)
-      | inr h ↦ ap (leb n) (cond-false (ltb k n) (n - 1 - k) k (le-ltb k n h))
+      | inr h ↦ rw le-ltb
     ]
 
 pub off_turned : (τ : Turn) (t : Table) (r c : ℕ) → off_sheet (turned_table τ t) (sent τ t r c).row (sent τ t r c).column ≡ off_sheet t r c
@@ -102,4 +102,4 @@ number_turned τ n = by (ltb 3 n) refl
     by false e = le-ltb 3 (side_number (turned_hand τ (hand_of n))) (omega (arith, number_below (turned_hand τ (hand_of n))))
 
 pub hand_turned : (τ : Turn) (n : ℕ) → ltb 3 n ≡ false → hand_of (turned_number τ n) ≡ turned_hand τ (hand_of n)
-hand_turned τ n e = ap hand_of (cond-false (ltb 3 n) n (side_number (turned_hand τ (hand_of n))) e) ∙ hand_there (turned_hand τ (hand_of n))
+hand_turned τ n e = rw (e, hand_there)
