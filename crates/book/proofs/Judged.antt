@@ -30,7 +30,7 @@ NoneThere (x ∷ xs) = (x.there ≡ false) × NoneThere xs
 
 judged_page : (P : Page → Type 0) (xs : List Fault) (b : Book) (p : Page) → ((why : Refusal) → P (unchanged b (Refused why))) → (NoneThere xs → P p) → P (judged xs b p)
 judged_page P [] b p f g = g tt
-judged_page P (x ∷ xs) b p f g = cond_both x.there (unchanged b (Refused x.why)) (judged xs b p) P (λ _. f x.why) (λ e. judged_page P xs b p f (λ n. g (e, n)))
+judged_page P (x ∷ xs) b p f g = cond_both x.there _ _ P (λ _. f x.why) (λ e. judged_page P xs b p f (λ n. g (e, n)))
 
 module _ (rules : Rules) where
   answer_page : (P : Page → Type 0) (b : Book) (x : Call) → ((why : Refusal) → P (unchanged b (Refused why))) → (b.stage ≡ stage_of x → NoneThere (faults rules b x) → P (accepted rules b x)) → P (answer rules b x)
@@ -59,7 +59,7 @@ module _ (rules : Rules) where
   accepts b x = refl
 
   pub refusal_leaves : (b : Book) (x : Call) → is_refusal (answer rules b x).reply ≡ true → (answer rules b x).book ≡ b
-  refusal_leaves b x = answer_page (λ p. is_refusal p.reply ≡ true → p.book ≡ b) b x (λ _ _. refl) (λ _ _ e. absurd (both_ways (is_refusal (accepted rules b x).reply) (accepts b x) e))
+  refusal_leaves b x = answer_page (λ p. is_refusal p.reply ≡ true → p.book ≡ b) b x (λ _ _. refl) (λ _ _ e. cc (accepts b x))
 
   -- the faults stand in the order of their numbers
   pub in_order : (b : Book) (x : Call) → InOrder (faults rules b x)

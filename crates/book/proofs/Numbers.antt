@@ -114,24 +114,21 @@ velocity_abs q zero p = absurd (omega arith)
 velocity_abs q (suc h) p = abs_quot q (pos (suc h))
 
 pub still_slow : (h : ℕ) → nat_abs (velocity (pos 0) h) ≤ max_velocity
-still_slow h = rw (velocity_zero h) zero-le
+still_slow h = rw velocity_zero zero-le
 
 -- a velocity in range says that the flow is small, and the other way round
 pub flow_small : (q : ℤ) (h : ℕ) → 1 ≤ h → nat_abs (velocity q h) ≤ max_velocity → nat_abs q < suc max_velocity * h
-flow_small q h p s = let e = velocity_abs q h p in (div-lt_iff_lt-mul {x = nat_abs q} {y = suc max_velocity} p).0 (omega arith)
+flow_small q h p s = (div-lt_iff_lt-mul {x = nat_abs q} {y = suc max_velocity} p).0 (omega (arith, velocity_abs q h p))
 
 pub flow_slow : (q : ℤ) (h : ℕ) → 1 ≤ h → nat_abs q < suc max_velocity * h → nat_abs (velocity q h) ≤ max_velocity
-flow_slow q h p s =
-    let e = velocity_abs q h p in
-    let l : nat_abs q / h < suc max_velocity = (div-lt_iff_lt-mul {x = nat_abs q} {y = suc max_velocity} p).1 s in
-    omega arith
+flow_slow q h p s = omega (arith, velocity_abs q h p, (div-lt_iff_lt-mul {x = nat_abs q} {y = suc max_velocity} p).1 s)
 
 pub times_slow : (h : ℕ) (v : ℤ) → 1 ≤ h → nat_abs v ≤ max_velocity → nat_abs (velocity (pos h *ℤ v) h) ≤ max_velocity
-times_slow h v p s = let e = abs_mul (pos h) v in flow_slow (pos h *ℤ v) h p (omega (arith, mul-le-mul_left h s))
+times_slow h v p s = flow_slow (pos h *ℤ v) h p (omega (arith, abs_mul (pos h) v, mul-le-mul_left h s))
 
 pub more_slow : (q : ℤ) (d r : ℕ) → (d ≡ 0 → q ≡ pos 0) → nat_abs (velocity q d) ≤ max_velocity → nat_abs (velocity q (d + r)) ≤ max_velocity
 more_slow q zero r dry s = rw (dry refl) (still_slow (0 + r))
-more_slow q (suc d) r dry s = flow_slow q (suc d + r) (omega arith) (let l = flow_small q (suc d) (omega arith) s in omega arith)
+more_slow q (suc d) r dry s = flow_slow q (suc d + r) (omega arith) (omega (arith, flow_small q (suc d) (omega arith) s))
 
 pub where_wet_zero : (d : ℕ) → where_wet d (pos 0) ≡ pos 0
 where_wet_zero zero = refl
@@ -154,4 +151,4 @@ carried_swap (pos (suc n)) x y = rw (lt-ltb 0 (suc n) (omega arith)) (rw (mul_ne
 carried_swap (negsuc n) x y = rw (lt-ltb 0 (suc n) (omega arith)) (sym (ap (λ z. z *ℤ y) (neg_ℤ-neg_ℤ (pos (20 * suc n)))) ∙ neg_mul (pos 20 *ℤ negsuc n) y)
 
 pub carried_none : (w x y : ℤ) → w ≡ pos 0 → (pos 20 *ℤ w) *ℤ cond (lt_z (pos 0) w) x y ≡ pos 0
-carried_none w x y e = rw e (zero-*ℤ y)
+carried_none w x y e = rw (e, zero-*ℤ)

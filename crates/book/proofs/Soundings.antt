@@ -1,5 +1,5 @@
 -- The soundings hold: the roots by uniqueness, the rest by computation with these roots.
-use Rattle.std.proofs.Common.{◌≡◌, ℕ, zero, suc, ◌+◌, ◌*◌, ◌<◌, max, Bool, false, cond, not, eqb, ltb, List, [], ◌∷◌, ℤ, pos, ◌+ℤ◌, ◌-ℤ◌, ◌*ℤ◌, neg_ℤ, nat_abs, sym, refl, ap, ◌∙◌, arith}
+use Rattle.std.proofs.Common.{◌≡◌, ℕ, zero, suc, ◌+◌, ◌*◌, ◌<◌, ◌≤◌, max, Bool, false, cond, not, eqb, ltb, List, [], ◌∷◌, ℤ, pos, ◌+ℤ◌, ◌-ℤ◌, ◌*ℤ◌, neg_ℤ, nat_abs, sym, refl, ap, ◌∙◌, arith}
 use lib.Signed.{quot_z}
 use Rattle.std.proofs.lemmas.Bool.{eqb-true, cond_both}
 use Rattle.book.specs.declared.side.Hand.{Hand}
@@ -32,28 +32,28 @@ use Rattle.rules.specs.Roots.{short_more, root_only}
 
 -- ---- roots, each the only number that is one
 
-root_is : (d s : ℕ) → LeastRoot d s → root_of d ≡ s
-root_is d s h = sym (root_only d s h)
+root_is : (d s : ℕ) → 981 * d ≤ 10 * ((s + 1) * (s + 1)) → 10 * (s * s) < 981 * d → root_of d ≡ s + 1
+root_is d s h l = sym (root_only d (s + 1) (record { enough = h; least = short_more (981 * d) s l }))
 
 root_0 : root_of 0 ≡ 0
-root_0 = root_is 0 0 (record { enough = omega arith; least = λ u h. omega arith })
+root_0 = sym (root_only 0 0 (record { enough = omega arith; least = λ u h. omega arith }))
 
 root_1 : root_of 1 ≡ 10
-root_1 = root_is 1 10 (record { enough = omega arith; least = short_more 981 9 (omega arith) })
+root_1 = root_is 1 9 (omega arith) (omega arith)
 
 root_500 : root_of 500 ≡ 222
-root_500 = root_is 500 222 (record { enough = omega arith; least = short_more 490500 221 (omega arith) })
+root_500 = root_is 500 221 (omega arith) (omega arith)
 
 root_1000 : root_of 1000 ≡ 314
-root_1000 = root_is 1000 314 (record { enough = omega arith; least = short_more 981000 313 (omega arith) })
+root_1000 = root_is 1000 313 (omega arith) (omega arith)
 
 root_2000000 : root_of 2000000 ≡ 14008
-root_2000000 = root_is 2000000 14008 (record { enough = omega arith; least = short_more 1962000000 14007 (omega arith) })
+root_2000000 = root_is 2000000 14007 (omega arith) (omega arith)
 
 -- ---- the same book with the roots written down, so that it computes
 
 root_at : (d k s rest : ℕ) → root_of k ≡ s → root_of d ≡ rest → root_of d ≡ cond (eqb d k) s rest
-root_at d k s rest e f = cond_both (eqb d k) s rest (λ z. root_of d ≡ z) (λ h. ap root_of (eqb-true d k h) ∙ e) (λ _. f)
+root_at d k s rest e f = cond_both (eqb d k) s rest (λ z. root_of d ≡ z) (λ h. rw (eqb-true d k h) e) (λ _. f)
 
 abbrev quick_root : ℕ → ℕ
 quick_root d = cond (eqb d 0) 0 (cond (eqb d 500) 222 (cond (eqb d 1000) 314 (cond (eqb d 2000000) 14008 (root_of d))))
@@ -125,8 +125,7 @@ pair = (book_after smooth (two_cells 1000 (pos 500) 500 [])).table
 at_both : (P : ℕ → ℕ → Type 0) → P 0 0 → P 0 1 → (r c : ℕ) → (r < 1) × (c < 2) → P r c
 at_both P a b zero zero on = a
 at_both P a b zero (suc zero) on = b
-at_both P a b zero (suc (suc c)) on = absurd (omega arith)
-at_both P a b (suc r) c on = absurd (omega arith)
+at_both P a b r c on = absurd (omega arith)
 
 abbrev Level : Hand → ℕ → ℕ → Type 0
 Level hand r c = (face pair r c hand).left.depth ≡ (face pair r c hand).right.depth
@@ -141,15 +140,11 @@ pair_still = record {
   where
     by : (hand : Hand) (r c : ℕ) → (r < 1) × (c < 2) → Level hand r c
     by West = at_both (Level West) refl refl
-    by East = at_both (Level East) refl refl
-    by South = at_both (Level South) refl refl
-    by North = at_both (Level North) refl refl
+    by hand = at_both (Level hand) refl refl
 
     unfed : (hand : Hand) → fed (side_at pair hand) ≡ false
     unfed West = refl
-    unfed East = refl
-    unfed South = refl
-    unfed North = refl
+    unfed hand = refl
 
 -- ---- all
 
