@@ -1,6 +1,6 @@
 -- An answer is a refusal that leaves the book, or the page of a call that fits the stage and has no fault.
 use Rattle.std.proofs.Common.{◌≡◌, true, false, not, eqb, List, [], ◌∷◌, refl, lit<}
-use Rattle.std.proofs.lemmas.Bool.{both_ways, not-false, cond_both}
+use Rattle.std.proofs.lemmas.Bool.{not-false, cond_both}
 use Rattle.book.specs.declared.call.Call.{Call}
 use Rattle.book.specs.declared.call.Call.TheVariants.{Prepare, Lay, Step, Rain, Soak, ChangeSide}
 use Rattle.book.specs.declared.refusal.Refusal.{Refusal}

@@ -1,9 +1,9 @@
 -- The soundings hold: the roots by uniqueness, the rest by computation with these roots.
-use Rattle.std.proofs.Common.{◌≡◌, ℕ, zero, suc, ◌+◌, ◌*◌, ◌<◌, ◌≤◌, max, Bool, false, cond, not, eqb, ltb, List, [], ◌∷◌, ℤ, pos, ◌+ℤ◌, ◌-ℤ◌, ◌*ℤ◌, neg_ℤ, nat_abs, sym, refl, ap, ◌∙◌, arith}
+use Rattle.std.proofs.Common.{◌≡◌, ℕ, zero, suc, ◌+◌, ◌*◌, ◌<◌, ◌≤◌, max, Bool, false, cond, not, eqb, ltb, List, [], ◌∷◌, ℤ, pos, ◌+ℤ◌, ◌-ℤ◌, ◌*ℤ◌, neg_ℤ, nat_abs, sym, refl, ap, arith}
 use lib.Signed.{quot_z}
 use Rattle.std.proofs.lemmas.Bool.{eqb-true, cond_both}
 use Rattle.book.specs.declared.side.Hand.{Hand}
-use Rattle.book.specs.declared.side.Hand.TheVariants.{West, East, South, North}
+use Rattle.book.specs.declared.side.Hand.TheVariants.{West, East}
 use Rattle.book.specs.declared.cell.Cell.{Cell}
 use Rattle.book.specs.declared.account.Passed.{Passed}
 use Rattle.book.specs.declared.call.Call.{Call}
@@ -14,7 +14,7 @@ use Rattle.book.specs.declared.reply.Reply.TheVariants.{Done, RateIs}
 use Rattle.rules.specs.BareBed.{bare_slowed}
 use Rattle.rules.specs.Drag.{quot_up, dragged}
 use Rattle.rules.specs.Hll.{slow_wave, fast_wave, slowest, fastest, by_waves, fan_water, fan_push, hll_water, hll_push}
-use Rattle.rules.specs.Root.{root_of, LeastRoot}
+use Rattle.rules.specs.Root.{root_of}
 use Rattle.rules.specs.Rusanov.{rusanov_water, rusanov_push}
 use Rattle.rules.specs.Side.{face_pace, pace_of, discharge, momentum}
 use Rattle.rules.specs.Weed.{weed_slowed}
