@@ -1,5 +1,5 @@
 -- The account adds up: all water that stands, soaked away or left is what was poured, rained or came in.
-use Rattle.std.proofs.Common.{◌≡◌, ℕ, suc, ◌+◌, ◌<◌, min, false, List, map, neg_ℤ, sym, refl, ap, ◌∙◌, subst, ⊎_elim, add-one, arith}
+use Rattle.std.proofs.Common.{◌≡◌, ℕ, suc, ◌+◌, ◌<◌, min, false, List, map, refl, ap, subst, ⊎_elim, add-one, arith}
 use lib.IntN.{neg_ℤ-neg_ℤ}
 use Rattle.book.specs.declared.cell.Cell.{Cell}
 use Rattle.book.specs.declared.side.Hand.{Hand}
@@ -9,10 +9,9 @@ use Rattle.book.specs.declared.call.Call.{Call}
 use Rattle.book.specs.declared.call.Call.TheVariants.{Open as Opening, Step, Rain, Soak, AskCell, AskAccount, AskStanding, AskSlowestRate}
 use Rattle.rules.specs.Flux.{LawfulFlux}
 use Rattle.rules.specs.Friction.{LawfulFriction}
-use Rattle.book.specs.Numbers.{positive, trunc}
-use Rattle.book.specs.Faces.{column, meet}
-use Rattle.book.specs.Step.{Rules, water}
-use Rattle.book.specs.Sheets.{Table, cell_at, seen, face, span, leaves, arrives, sum_places, sum_side, with_cells, standing, too_slow, stepped}
+use Rattle.book.specs.Faces.{Face}
+use Rattle.book.specs.Step.{Rules, gives, takes}
+use Rattle.book.specs.Sheets.{Table, cell_at, face, span, leaves, arrives, sum_places, sum_side, with_cells, standing, too_slow, stepped}
 use Rattle.book.specs.Accounts.{account_after_step, rain_more, soak_more}
 use Rattle.book.specs.Calls.{Book, Stage, start, preparing, serving, closed, soaked, rained, at_rest, stage_of, faults, accepted, empty_book, soaked_away, book_after, rained_on}
 use Rattle.book.proofs.Sound.{Sound, SoundAt, SoundBook}
@@ -27,27 +26,18 @@ use Rattle.book.proofs.Soundness.{sound_kept}
 -- ---- a face seen from both its cells
 
 east_face : (t : Table) (r c : ℕ) → suc c < t.columns → face t r (suc c) West ≡ face t r c East
-east_face t r c h = ap (λ o. meet (column East (cell_at t r c)) (seen t r c East o)) (sym (east_some t r c (suc c) h (add-one c)))
+east_face t r c h = rw (east_some t r c (suc c) h (add-one c))
 
 north_face : (t : Table) (r c : ℕ) → suc r < t.rows → face t (suc r) c South ≡ face t r c North
-north_face t r c h = ap (λ o. meet (column North (cell_at t r c)) (seen t r c North o)) (sym (north_some t r c (suc r) h (add-one r)))
+north_face t r c h = rw (north_some t r c (suc r) h (add-one r))
 
-module _ (rules : Rules) (t : Table) (rate r c : ℕ) where
-  west_from_east : suc c < t.columns → arrives rules t rate r (suc c) West ≡ leaves rules t rate r c East
-  west_from_east h =
-      ap positive (neg_ℤ-neg_ℤ (trunc (water rules (face t r (suc c) West)) (span t rate)))
-      ∙ ap (λ f. positive (trunc (water rules f) (span t rate))) (east_face t r c h)
+-- what one of them takes there the other gives; west and east, or south and north
+module _ (rules : Rules) (k : ℕ) (f g : Face) (e : f ≡ g) where
+  low_takes : takes rules k West f ≡ gives rules k East g
+  low_takes = rw (e, neg_ℤ-neg_ℤ)
 
-  west_to_east : suc c < t.columns → leaves rules t rate r (suc c) West ≡ arrives rules t rate r c East
-  west_to_east h = ap (λ f. positive (neg_ℤ (trunc (water rules f) (span t rate)))) (east_face t r c h)
-
-  south_from_north : suc r < t.rows → arrives rules t rate (suc r) c South ≡ leaves rules t rate r c North
-  south_from_north h =
-      ap positive (neg_ℤ-neg_ℤ (trunc (water rules (face t (suc r) c South)) (span t rate)))
-      ∙ ap (λ f. positive (trunc (water rules f) (span t rate))) (north_face t r c h)
-
-  south_to_north : suc r < t.rows → leaves rules t rate (suc r) c South ≡ arrives rules t rate r c North
-  south_to_north h = ap (λ f. positive (neg_ℤ (trunc (water rules f) (span t rate)))) (north_face t r c h)
+  low_gives : gives rules k West f ≡ takes rules k East g
+  low_gives = rw e
 
 -- ---- the account after a call
 
@@ -100,8 +90,8 @@ module _ (rules : Rules) (flux : LawfulFlux rules.water rules.push) (t : Table) 
       (λ r c. arrives rules t rate r c West) (λ r c. arrives rules t rate r c East) (λ r c. arrives rules t rate r c South) (λ r c. arrives rules t rate r c North)
       (λ r c. leaves rules t rate r c West) (λ r c. leaves rules t rate r c East) (λ r c. leaves rules t rate r c South) (λ r c. leaves rules t rate r c North)
       (λ r c p q. stepped_exact rules t rate r c p q (not_overdrawn rules flux t sound rate paced r c p q))
-      (λ r c p q. west_from_east rules t rate r c q) (λ r c p q. west_to_east rules t rate r c q)
-      (λ c r p q. south_from_north rules t rate r c q) (λ c r p q. south_to_north rules t rate r c q)
+      (λ r c p q. low_takes rules (span t rate) _ _ (east_face t r c q)) (λ r c p q. low_gives rules (span t rate) _ _ (east_face t r c q))
+      (λ c r p q. low_takes rules (span t rate) _ _ (north_face t r c q)) (λ c r p q. low_gives rules (span t rate) _ _ (north_face t r c q))
 
   step_balanced : (a : Account) → BalancedAt serving t a → BalancedAt serving (stepped rules t rate) (account_after_step rules t rate a)
   step_balanced a h =

@@ -1,10 +1,10 @@
 -- Signs, ranges, quotients and velocities, and the laws of `share`, `film` and `friction_speed`: a change of one of these three proves its laws again here.
-use Rattle.std.proofs.Common.{◌≡◌, ℕ, zero, suc, ◌+◌, ◌*◌, ◌/◌, ◌<◌, ◌≤◌, false, cond, ltb, ℤ, pos, negsuc, ◌*ℤ◌, neg_ℤ, nat_abs, ◌≤ℤ◌, sym, refl, ap, ◌∙◌, ⊎_elim, zero-le, mul-le-mul_right, div-lt_iff_lt-mul, mul-le-mul_left, div-mul-le_self, arith}
-use native.Mathlib.Nat.{zero-div, div-zero}
+use Rattle.std.proofs.Common.{◌≡◌, ℕ, zero, suc, ◌+◌, ◌*◌, ◌/◌, ◌<◌, ◌≤◌, false, cond, ltb, ℤ, pos, negsuc, ◌*ℤ◌, neg_ℤ, nat_abs, ◌≤ℤ◌, sym, refl, ap, ◌∙◌, zero-le, mul-le-mul_right, div-lt_iff_lt-mul, mul-le-mul_left, div-mul-le_self, arith}
+use native.Mathlib.Nat.{zero-div, div-zero, le_of_mul-le-mul_right}
 use lib.IntN.{neg_ℤ-neg_ℤ, zero-*ℤ}
 use lib.Signed.{lt_z}
 use Rattle.std.proofs.lemmas.Int.{ints}
-use Rattle.std.proofs.lemmas.Bool.{lt-ltb, ltb-false, cases_lt, or_parts}
+use Rattle.std.proofs.lemmas.Bool.{lt-ltb, ltb-false, or_parts}
 use Rattle.std.proofs.lemmas.Bool.Decides.{nat_tests}
 use Rattle.book.specs.Ranges.{max_depth, max_velocity, max_bed, outside, bed_amiss}
 use Rattle.book.specs.Numbers.{trunc, share, film, thinned, positive, greater, velocity, where_wet, friction_speed}
@@ -46,12 +46,7 @@ trunc_none w k e = rw (e, zero-div)
 
 quarter : (a k p d : ℕ) → a ≤ p * d → 4 * p ≤ k → 4 * (a / k) ≤ d
 quarter a zero p d h g = rw div-zero zero-le
-quarter a (suc m) p d h g =
-    let k : ℕ = suc m in
-    ⊎_elim
-    (λ (l : d < 4 * (a / k)). absurd (omega (arith, mul-le-mul_right k l, div-mul-le_self a k, mul-le-mul_right d g)))
-    (λ (l : 4 * (a / k) ≤ d). l)
-    (cases_lt d (4 * (a / k)))
+quarter a (suc m) p d h g = le_of_mul-le-mul_right {k = suc m} (omega (arith, div-mul-le_self a (suc m), mul-le-mul_right d g)) (omega arith)
 
 -- water of at most p times d, over k of at least 4 times p, is at most a quarter of d
 pub quarter_out : (w : ℤ) (k p d : ℕ) → w ≤ℤ pos (p * d) → 4 * p ≤ k → 4 * positive (trunc w k) ≤ d

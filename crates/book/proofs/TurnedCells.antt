@@ -1,5 +1,5 @@
 -- One step of one cell: the turned faces make of the turned cell the new cell, turned.
-use Rattle.std.proofs.Common.{◌≡◌, ℕ, ◌+◌, ◌-◌, ◌*◌, ◌≤◌, Bool, true, false, cond, not, ◌&&◌, ◌||◌, ltb, ℤ, pos, ◌+ℤ◌, ◌-ℤ◌, ◌*ℤ◌, neg_ℤ, nat_abs, refl, ap, ◌∙◌, ap₂, arith}
+use Rattle.std.proofs.Common.{◌≡◌, ℕ, ◌+◌, ◌-◌, ◌*◌, ◌≤◌, Bool, true, false, cond, ◌||◌, ltb, ℤ, pos, ◌-ℤ◌, ◌*ℤ◌, neg_ℤ, nat_abs, refl, ap, ◌∙◌, arith}
 use lib.IntN.{neg_ℤ-neg_ℤ}
 use lib.Signed.{lt_z}
 use Rattle.std.proofs.lemmas.Int.{ints}
@@ -12,7 +12,7 @@ use Rattle.rules.specs.Side.{face_pace, pace_of}
 use Rattle.book.specs.declared.turn.Turn.{Turn}
 use Rattle.book.specs.declared.turn.Turn.TheVariants.{EastWest, SouthNorth, RowsColumns}
 use Rattle.book.specs.Ranges.{max_depth, max_velocity, max_rate}
-use Rattle.book.specs.Numbers.{trunc, share, film, thinned, positive, velocity}
+use Rattle.book.specs.Numbers.{trunc, share, thinned, positive, velocity}
 use Rattle.book.specs.Faces.{Face, own_depth, pace}
 use Rattle.book.specs.Step.{Rules, thrust, all_hands, speed, past_brim, water, push, carried, outward, gives, takes, pressed, east_thrust, north_thrust, depth_after, raw_east, raw_north, brim_after, cell_after}
 use Rattle.book.specs.Turns.{turned_hand, turned_cell}
@@ -59,27 +59,25 @@ module _ (rules : Rules) (flux : LawfulFlux rules.water rules.push) where
 
   carried_flip : (f : Face) → FacingBoth f → carried rules (flip f) ≡ neg_ℤ (carried rules f)
   carried_flip f h =
-      ap (λ w. (pos 20 *ℤ w) *ℤ cond (lt_z (pos 0) w) f.right.along f.left.along) (water_flip f h)
-      ∙ carried_swap (water rules f) f.left.along f.right.along
+      rw (water_flip f h) (carried_swap (water rules f) f.left.along f.right.along)
 
   carried_counter : (f : Face) → carried rules (counter f) ≡ neg_ℤ (carried rules f)
   carried_counter f =
-      ap (λ x. (pos 20 *ℤ water rules f) *ℤ x) (cond_neg (lt_z (pos 0) (water rules f)) f.left.along f.right.along)
-      ∙ mul_neg (pos 20 *ℤ water rules f) (cond (lt_z (pos 0) (water rules f)) f.left.along f.right.along)
+      rw (cond_neg (lt_z (pos 0) (water rules f)) f.left.along f.right.along) (mul_neg (pos 20 *ℤ water rules f) _)
 
   trunc_flip : (K : ℕ) (f : Face) → FacingBoth f → trunc (water rules (flip f)) K ≡ neg_ℤ (trunc (water rules f) K)
-  trunc_flip K f h = ap (λ w. trunc w K) (water_flip f h) ∙ quot_neg (water rules f) K
+  trunc_flip K f h = rw (water_flip f h, quot_neg)
 
   outward_turned : (τ : Turn) (hand : Hand) (K : ℕ) (f : Face) → FacingBoth f → outward rules K hand (turned_face τ hand f) ≡ outward rules K (turned_hand τ hand) f
-  outward_turned EastWest West K f h = ap neg_ℤ (trunc_flip K f h) ∙ neg_ℤ-neg_ℤ (trunc (water rules f) K)
+  outward_turned EastWest West K f h = rw (trunc_flip K f h, neg_ℤ-neg_ℤ)
   outward_turned EastWest East K f h = trunc_flip K f h
-  outward_turned SouthNorth South K f h = ap neg_ℤ (trunc_flip K f h) ∙ neg_ℤ-neg_ℤ (trunc (water rules f) K)
+  outward_turned SouthNorth South K f h = rw (trunc_flip K f h, neg_ℤ-neg_ℤ)
   outward_turned SouthNorth North K f h = trunc_flip K f h
   outward_turned RowsColumns West K f h = refl
   outward_turned τ hand K f h = refl
 
   pressed_flip : (d : ℕ) (hand to : Hand) (f : Face) → own_depth hand (flip f) ≡ own_depth to f → FacingBoth f → pressed rules d hand (flip f) ≡ pressed rules d to f
-  pressed_flip d hand to f e h = ap₂ (λ p o. p +ℤ (pos 981 *ℤ (pos (d * d) -ℤ pos (o * o)))) (push_flip f h) e
+  pressed_flip d hand to f e h = rw (push_flip f h, e)
 
   pressed_turned : (τ : Turn) (hand : Hand) (d : ℕ) (f : Face) → FacingBoth f → pressed rules d hand (turned_face τ hand f) ≡ pressed rules d (turned_hand τ hand) f
   pressed_turned EastWest West d f h = pressed_flip d West East f refl h
@@ -107,22 +105,22 @@ depth_kept EastWest k = refl
 depth_kept τ k = refl
 
 speed_turned : (τ : Turn) (k : Cell) → speed (turned_cell τ k) ≡ speed k
-speed_turned EastWest k = rw (velocity_neg k.east k.depth) (friction_speed_neg_east (velocity k.east k.depth) (velocity k.north k.depth))
-speed_turned SouthNorth k = rw (velocity_neg k.north k.depth) (friction_speed_neg_north (velocity k.east k.depth) (velocity k.north k.depth))
+speed_turned EastWest k = rw (velocity_neg, friction_speed_neg_east)
+speed_turned SouthNorth k = rw (velocity_neg, friction_speed_neg_north)
 speed_turned RowsColumns k = friction_speed_swap (velocity k.east k.depth) (velocity k.north k.depth)
 
 brim_neg_east : (h : ℕ) (e n : ℤ) → past_brim h (neg_ℤ e) n ≡ past_brim h e n
-brim_neg_east h e n = ap (λ v. not (ltb h film) && (ltb max_depth h || ltb max_velocity v || ltb max_velocity (nat_abs (velocity n h)))) (speed_neg e h)
+brim_neg_east h e n = rw (speed_neg e h)
 
 brim_neg_north : (h : ℕ) (e n : ℤ) → past_brim h e (neg_ℤ n) ≡ past_brim h e n
-brim_neg_north h e n = ap (λ v. not (ltb h film) && (ltb max_depth h || ltb max_velocity (nat_abs (velocity e h)) || ltb max_velocity v)) (speed_neg n h)
+brim_neg_north h e n = rw (speed_neg n h)
 
 or_last : (a b c : Bool) → ((a || b) || c) ≡ ((a || c) || b)
 or_last true b c = refl
 or_last false b c = or_comm b c
 
 brim_swap : (h : ℕ) (e n : ℤ) → past_brim h n e ≡ past_brim h e n
-brim_swap h e n = ap (λ b. not (ltb h film) && b) (or_last (ltb max_depth h) (ltb max_velocity (nat_abs (velocity n h))) (ltb max_velocity (nat_abs (velocity e h))))
+brim_swap h e n = rw (or_last (ltb max_depth h) (ltb max_velocity (nat_abs (velocity n h))) (ltb max_velocity (nat_abs (velocity e h))))
 
 -- the turned faces, seen from the turned cell
 abbrev pub turned_faces : Turn → (Hand → Face) → Hand → Face

@@ -36,8 +36,8 @@ pub some_hand_turned : (τ : Turn) (p q : Hand → Bool) → ((hand : Hand) → 
 some_hand_turned τ p q h = (λ i. (h West i || h East i) || (h South i || h North i)) ∙ by τ
   where
     by : (τ : Turn) → some_hand (λ hand. q (turned_hand τ hand)) ≡ some_hand q
-    by EastWest = ap (λ x. x || (q South || q North)) (or_comm (q East) (q West))
-    by SouthNorth = ap (λ x. (q West || q East) || x) (or_comm (q North) (q South))
+    by EastWest = rw (or_comm (q East) (q West))
+    by SouthNorth = rw (or_comm (q North) (q South))
     by RowsColumns = or_comm (q South || q North) (q West || q East)
 
 -- ---- places
@@ -57,13 +57,13 @@ sent_column SouthNorth t r c h k = k
 sent_column RowsColumns t r c h k = h
 
 pub came_sent : (τ : Turn) (t : Table) (r c : ℕ) → r < t.rows → c < t.columns → came τ t (sent τ t r c).row (sent τ t r c).column ≡ record { row = r; column = c }
-came_sent EastWest t r c h k = ap (λ n. record { row = r; column = n }) (mirrored_twice t.columns c k)
-came_sent SouthNorth t r c h k = ap (λ n. record { row = n; column = c }) (mirrored_twice t.rows r h)
+came_sent EastWest t r c h k = rw (mirrored_twice t.columns c k)
+came_sent SouthNorth t r c h k = rw (mirrored_twice t.rows r h)
 came_sent RowsColumns t r c h k = refl
 
 sent_came : (τ : Turn) (t : Table) (r c : ℕ) → r < high τ t → c < wide τ t → sent τ t (came τ t r c).row (came τ t r c).column ≡ record { row = r; column = c }
-sent_came EastWest t r c h k = ap (λ n. record { row = r; column = n }) (mirrored_twice t.columns c k)
-sent_came SouthNorth t r c h k = ap (λ n. record { row = n; column = c }) (mirrored_twice t.rows r h)
+sent_came EastWest t r c h k = rw (mirrored_twice t.columns c k)
+sent_came SouthNorth t r c h k = rw (mirrored_twice t.rows r h)
 sent_came RowsColumns t r c h k = refl
 
 -- ---- along a side of the sheet
@@ -118,13 +118,13 @@ no_cell_turned τ = refl
 
 module _ (τ : Turn) (t : Table) where
   pub depth_came : (r c : ℕ) → r < high τ t → c < wide τ t → (cell_at (turned_table τ t) r c).depth ≡ (came_cell τ t r c).depth
-  depth_came r c h k = ap (λ (x : Cell). x.depth) (cell_turned τ t r c h k) ∙ depth_kept τ (came_cell τ t r c)
+  depth_came r c h k = rw (cell_turned τ t r c h k, depth_kept)
 
   bed_came : (r c : ℕ) → r < high τ t → c < wide τ t → (cell_at (turned_table τ t) r c).bed ≡ (came_cell τ t r c).bed
-  bed_came r c h k = ap (λ (x : Cell). x.bed) (cell_turned τ t r c h k) ∙ bed_kept τ (came_cell τ t r c)
+  bed_came r c h k = rw (cell_turned τ t r c h k, bed_kept)
 
   pub laid_came : (r c : ℕ) → r < high τ t → c < wide τ t → (cell_at (turned_table τ t) r c).laid ≡ (came_cell τ t r c).laid
-  laid_came r c h k = ap (λ (x : Cell). x.laid) (cell_turned τ t r c h k) ∙ laid_kept τ (came_cell τ t r c)
+  laid_came r c h k = rw (cell_turned τ t r c h k, laid_kept)
 
   pub standing_turned : standing (turned_table τ t) ≡ standing t
   standing_turned = sum_turned τ t.rows t.columns (λ r c. (cell_at (turned_table τ t) r c).depth) (λ r c. (cell_at t r c).depth) depth_came

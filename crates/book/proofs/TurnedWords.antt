@@ -1,11 +1,11 @@
 -- Accounts, cells by themselves, places and numbers of sides, turned.
-use Rattle.std.proofs.Common.{◌≡◌, ℕ, ◌-◌, ◌*◌, ◌<◌, min, Bool, true, false, cond, ◌||◌, ltb, leb, ℤ, pos, ◌*ℤ◌, neg_ℤ, sym, refl, ap, ◌∙◌, inl, inr, mul_comm, arith}
+use Rattle.std.proofs.Common.{◌≡◌, ℕ, ◌-◌, ◌*◌, ◌<◌, min, Bool, true, false, cond, ◌||◌, ltb, leb, ℤ, pos, ◌*ℤ◌, neg_ℤ, sym, refl, ◌∙◌, inl, inr, mul_comm, arith}
 use Rattle.std.proofs.lemmas.Bool.{lt-leb, le-ltb, leb-false, cases_lt, or_parts}
 use Rattle.book.specs.declared.cell.Cell.{Cell}
 use Rattle.book.specs.declared.account.Account.{Account}
 use Rattle.book.specs.declared.turn.Turn.{Turn}
 use Rattle.book.specs.declared.turn.Turn.TheVariants.{EastWest, SouthNorth, RowsColumns}
-use Rattle.book.specs.Ranges.{max_count, outside, size_amiss}
+use Rattle.book.specs.Ranges.{outside, size_amiss}
 use Rattle.book.specs.Numbers.{thinned, velocity}
 use Rattle.book.specs.Sheets.{Table, side_number, off_sheet}
 use Rattle.book.specs.Accounts.{full_passed, full, poured_only, rain_more, soak_more}
@@ -21,9 +21,9 @@ use Rattle.book.proofs.TurnedTables.{sent}
 -- ---- accounts
 
 pub full_turned : (τ : Turn) (a : Account) → full (turned_account τ a) ≡ full a
-full_turned EastWest a = ap (λ x. (ltb max_count a.poured || ltb max_count a.rain || ltb max_count a.soak) || (x || (full_passed a.south || full_passed a.north))) (or_comm (full_passed a.east) (full_passed a.west))
-full_turned SouthNorth a = ap (λ x. (ltb max_count a.poured || ltb max_count a.rain || ltb max_count a.soak) || ((full_passed a.west || full_passed a.east) || x)) (or_comm (full_passed a.north) (full_passed a.south))
-full_turned RowsColumns a = ap (λ x. (ltb max_count a.poured || ltb max_count a.rain || ltb max_count a.soak) || x) (or_comm (full_passed a.south || full_passed a.north) (full_passed a.west || full_passed a.east))
+full_turned EastWest a = rw (or_comm (full_passed a.east) (full_passed a.west))
+full_turned SouthNorth a = rw (or_comm (full_passed a.north) (full_passed a.south))
+full_turned RowsColumns a = rw (or_comm (full_passed a.south || full_passed a.north) (full_passed a.west || full_passed a.east))
 
 pub poured_turned : (τ : Turn) (n : ℕ) → poured_only n ≡ turned_account τ (poured_only n)
 poured_turned EastWest n = refl
@@ -54,21 +54,19 @@ rained_turned τ n k = refl
 soaked_flow : (h d : ℕ) (q : ℤ) → thinned h (pos h *ℤ velocity (neg_ℤ q) d) ≡ neg_ℤ (thinned h (pos h *ℤ velocity q d))
 soaked_flow h d q =
     thinned_neg h (pos h *ℤ velocity (neg_ℤ q) d) (pos h *ℤ velocity q d)
-    (λ _. ap (λ v. pos h *ℤ v) (velocity_neg q d) ∙ mul_neg (pos h) (velocity q d))
+    (λ _. rw (velocity_neg, mul_neg))
 
 pub soaked_turned : (τ : Turn) (n : ℕ) (k : Cell) → soaked n (turned_cell τ k) ≡ turned_cell τ (soaked n k)
 soaked_turned EastWest n k =
-    let h : ℕ = k.depth - min k.depth n in
-    λ i. record { laid = k.laid; bed = k.bed; depth = h; east = soaked_flow h k.depth k.east i; north = (soaked n k).north }
+    rw (soaked_flow (k.depth - min k.depth n) k.depth k.east)
 soaked_turned SouthNorth n k =
-    let h : ℕ = k.depth - min k.depth n in
-    λ i. record { laid = k.laid; bed = k.bed; depth = h; east = (soaked n k).east; north = soaked_flow h k.depth k.north i }
+    rw (soaked_flow (k.depth - min k.depth n) k.depth k.north)
 soaked_turned RowsColumns n k = refl
 
 -- ---- what a call names
 
 pub size_turned : (τ : Turn) (rows columns width : ℕ) → size_amiss (turned_rows τ rows columns) (turned_columns τ rows columns) width ≡ size_amiss rows columns width
-size_turned RowsColumns rows columns width = λ i. or_comm (outside 1 64 columns) (outside 1 64 rows) i || (ltb 1024 (mul_comm columns rows i) || outside 10 100000 width)
+size_turned RowsColumns rows columns width = rw (or_comm (outside 1 64 columns) (outside 1 64 rows), mul_comm columns rows)
 size_turned τ rows columns width = refl
 
 pub product_turned : (τ : Turn) (rows columns : ℕ) → turned_rows τ rows columns * turned_columns τ rows columns ≡ rows * columns
@@ -83,8 +81,8 @@ leb_mirrored n k =
     ]
 
 pub off_turned : (τ : Turn) (t : Table) (r c : ℕ) → off_sheet (turned_table τ t) (sent τ t r c).row (sent τ t r c).column ≡ off_sheet t r c
-off_turned EastWest t r c = ap (λ x. leb t.rows r || x) (leb_mirrored t.columns c)
-off_turned SouthNorth t r c = ap (λ x. x || leb t.columns c) (leb_mirrored t.rows r)
+off_turned EastWest t r c = rw (leb_mirrored t.columns c)
+off_turned SouthNorth t r c = rw (leb_mirrored t.rows r)
 off_turned RowsColumns t r c = or_comm (leb t.columns c) (leb t.rows r)
 
 pub on_row : (t : Table) (r c : ℕ) → off_sheet t r c ≡ false → r < t.rows
