@@ -13,7 +13,7 @@ use Rattle.book.specs.Faces.{Face}
 use Rattle.book.specs.Step.{Rules, gives, takes}
 use Rattle.book.specs.Sheets.{Table, cell_at, face, span, leaves, arrives, sum_places, sum_side, with_cells, standing, too_slow, stepped}
 use Rattle.book.specs.Accounts.{account_after_step, rain_more, soak_more}
-use Rattle.book.specs.Calls.{Book, Stage, start, preparing, serving, closed, soaked, rained, at_rest, stage_of, faults, accepted, empty_book, soaked_away, book_after, rained_on}
+use Rattle.book.specs.Calls.{Book, Stage, serving, closed, soaked, rained, at_rest, stage_of, faults, accepted, empty_book, soaked_away, book_after, rained_on}
 use Rattle.book.proofs.Sound.{Sound, SoundAt, SoundBook}
 use Rattle.book.specs.Laws.{Balanced, Opened}
 use Rattle.book.proofs.Sums.{sheet_balance, total_same, total_add, total_even}
@@ -42,10 +42,9 @@ module _ (rules : Rules) (k : ℕ) (f g : Face) (e : f ≡ g) where
 -- ---- the account after a call
 
 abbrev BalancedAt : Stage → Table → Account → Type 0
-BalancedAt start t a = Unit {0}
-BalancedAt preparing t a = Unit {0}
 BalancedAt serving t a = Balanced (record { stage = serving; table = t; account = a })
 BalancedAt closed t a = Balanced (record { stage = closed; table = t; account = a })
+BalancedAt s t a = Unit {0}
 
 abbrev BalancedBook : Book → Type 0
 BalancedBook b = BalancedAt b.stage b.table b.account
@@ -57,11 +56,7 @@ standing_map t sound f =
     (λ r c p q. ap (λ (k : Cell). k.depth) (map_at t.rows t.columns t.cells f r c sound.sized p q))
 
 rain_balanced : (t : Table) → Sound t → (a : Account) (n : ℕ) → BalancedAt serving t a → BalancedAt serving (with_cells t (map (rained n) t.cells)) (rain_more a (rained_on t n))
-rain_balanced t sound a n h =
-    let e = standing_map t sound (rained n) in
-    let u = total_add t.rows t.columns (λ r c. (cell_at t r c).depth) (λ r c. n) in
-    let v = total_even t.rows t.columns n in
-    omega arith
+rain_balanced t sound a n h = omega (arith, standing_map t sound (rained n), total_add t.rows t.columns (λ r c. (cell_at t r c).depth) (λ r c. n), total_even t.rows t.columns n)
 
 soak_balanced : (t : Table) → Sound t → (a : Account) (n : ℕ) → BalancedAt serving t a → BalancedAt serving (with_cells t (map (soaked n) t.cells)) (soak_more a (soaked_away t n))
 soak_balanced t sound a n h =
@@ -69,12 +64,6 @@ soak_balanced t sound a n h =
     let u = total_add t.rows t.columns (λ r c. (soaked n (cell_at t r c)).depth) (λ r c. min (cell_at t r c).depth n) in
     let v = total_same t.rows t.columns (λ r c. (soaked n (cell_at t r c)).depth + min (cell_at t r c).depth n) (λ r c. (cell_at t r c).depth) (λ r c p q. omega arith) in
     omega arith
-
-add_step : (old new soak poured rain wo eo so nn wi ei si ni lw le ls ln aw ae av an : ℕ)
-    → new + (lw + le + ls + ln) ≡ old + (aw + ae + av + an)
-    → old + soak + (wo + eo + so + nn) ≡ poured + rain + (wi + ei + si + ni)
-    → new + soak + ((wo + lw) + (eo + le) + (so + ls) + (nn + ln)) ≡ poured + rain + ((wi + aw) + (ei + ae) + (si + av) + (ni + an))
-add_step old new soak poured rain wo eo so nn wi ei si ni lw le ls ln aw ae av an h g = omega arith
 
 module _ (rules : Rules) (flux : LawfulFlux rules.water rules.push) (t : Table) (sound : Sound t) (rate : ℕ) (paced : too_slow t rate ≡ false) where
   abbrev passes_out : Hand → ℕ
@@ -94,11 +83,7 @@ module _ (rules : Rules) (flux : LawfulFlux rules.water rules.push) (t : Table) 
       (λ c r p q. low_takes rules (span t rate) _ _ (north_face t r c q)) (λ c r p q. low_gives rules (span t rate) _ _ (north_face t r c q))
 
   step_balanced : (a : Account) → BalancedAt serving t a → BalancedAt serving (stepped rules t rate) (account_after_step rules t rate a)
-  step_balanced a h =
-      add_step (standing t) (standing (stepped rules t rate)) a.soak a.poured a.rain
-      a.west.out a.east.out a.south.out a.north.out a.west.into a.east.into a.south.into a.north.into
-      (passes_out West) (passes_out East) (passes_out South) (passes_out North) (passes_in West) (passes_in East) (passes_in South) (passes_in North)
-      step_standing h
+  step_balanced a h = omega (arith, step_standing)
 
 module _ (rules : Rules) (flux : LawfulFlux rules.water rules.push) (friction : LawfulFriction rules.slowed) where
   accepted_balanced : (b : Book) (x : Call) → BalancedBook b → SoundAt (stage_of x) b.table → BalancedAt (stage_of x) b.table b.account → NoneThere (faults rules b x) → BalancedBook (accepted rules b x).book

@@ -23,7 +23,7 @@ use Rattle.book.proofs.Sound.{Ranged, Sound, GhostKept, SoundAt, SoundBook}
 use Rattle.book.specs.Laws.{OnSheet}
 use Rattle.book.proofs.Numbers.{inside, bed_inside}
 use Rattle.book.proofs.Sums.{none_below, no_place}
-use Rattle.book.proofs.Grids.{grid_at, length_grid, map_at, set_at, place_below}
+use Rattle.book.proofs.Grids.{grid_at, length_grid, map_at, place_below}
 use Rattle.book.proofs.Neighbours.{hand_there, number_below, border_row, border_column}
 use Rattle.book.proofs.Judged.{NoneThere, answer_book, after_book, answer_done, answer_accepted}
 use Rattle.book.proofs.Steps.{still_ranged, soaked_ranged, rained_ranged, new_ranged, not_overdrawn, stepped_exact}
@@ -133,8 +133,10 @@ lay_sound t sound walls row column bed depth bedded shallow = record {
   sized = length-set t.cells (row * t.columns + column) (fresh bed depth) ∙ sound.sized;
   four = sound.four;
   ranged = λ r c p q.
-      ⊎_elim (λ e. subst Ranged (sym e) (still_ranged true bed depth bedded shallow)) (λ e. subst Ranged (sym e) (sound.ranged r c p q))
-      (set_at t.cells (row * t.columns + column) (r * t.columns + c) (fresh bed depth) (omega (arith, place_below t.rows t.columns r c p q, sound.sized)));
+      ⊎_elim
+      (λ e. rw (get_or-set_at t.cells (row * t.columns + column) (r * t.columns + c) (fresh bed depth) no_cell e (omega (arith, place_below t.rows t.columns r c p q, sound.sized))) (still_ranged true bed depth bedded shallow))
+      (λ e. rw (get_or-set_other t.cells (row * t.columns + column) (r * t.columns + c) (fresh bed depth) no_cell e) (sound.ranged r c p q))
+      (cases_eq (r * t.columns + c) (row * t.columns + column));
   ghosts = λ hand k b. walled t.sides walls hand _;
 }
 

@@ -12,18 +12,18 @@ use Rattle.book.specs.declared.turn.Turn.TheVariants.{EastWest, SouthNorth, Rows
 use Rattle.book.specs.Ranges.{max_rate}
 use Rattle.book.specs.Faces.{pace}
 use Rattle.book.specs.Step.{Rules, gives, takes, brim_after, cell_after}
-use Rattle.book.specs.Sheets.{Table, cell_at, span, face, leaves, arrives, new_cell, over_brim, grid, sum_below, some_hand, with_cells, too_slow, brim_passed}
+use Rattle.book.specs.Sheets.{Table, span, face, leaves, arrives, new_cell, over_brim, grid, sum_below, some_hand, too_slow, brim_passed}
 use Rattle.book.specs.Accounts.{passed_by, account_after_step}
 use Rattle.book.specs.Calls.{slowest_rate, least_rate}
 use Rattle.book.specs.Turns.{turned_hand, turned_cell, turned_table, turned_account}
 use Rattle.book.proofs.Sound.{Sound, FacingBoth}
 use Rattle.book.proofs.Sums.{sum_same, sum_mirrored, some_turned, no_place}
-use Rattle.book.proofs.Grids.{grid_at, grid_same}
+use Rattle.book.proofs.Grids.{grid_at, length_grid}
 use Rattle.book.proofs.Neighbours.{rows_some, columns_some}
 use Rattle.book.proofs.Faces.{faces_sound}
 use Rattle.book.proofs.TurnedFaces.{high, wide, came, came_cell, came_row, came_column, cell_turned, face_turned}
 use Rattle.book.proofs.TurnedCells.{turned_faces, pace_turned, gives_turned, takes_turned, brim_turned, new_turned}
-use Rattle.book.proofs.TurnedTables.{side_turned_by, some_hand_turned, turned_list}
+use Rattle.book.proofs.TurnedTables.{turned_from, side_turned_by, some_hand_turned, turned_list}
 
 module _ (τ : Turn) (t : Table) where
   pub too_slow_turned : (rate : ℕ) → too_slow (turned_table τ t) rate ≡ too_slow t rate
@@ -68,9 +68,9 @@ module _ (rules : Rules) (flux : LawfulFlux rules.water rules.push) (τ : Turn) 
   pub step_cells : LawfulFriction rules.slowed → (rate : ℕ) → 1 ≤ rate → rate ≤ max_rate → brim_passed rules t rate ≡ false →
       grid (high τ t) (wide τ t) (new_cell rules (turned_table τ t) rate) ≡ turned_list τ t (grid t.rows t.columns (new_cell rules t rate))
   step_cells friction rate low top brim =
-      grid_same (high τ t) (wide τ t) (new_cell rules (turned_table τ t) rate) (λ r c. turned_cell τ (cell_at (with_cells t (grid t.rows t.columns (new_cell rules t rate))) (came τ t r c).row (came τ t r c).column))
-      (λ r c h k.
-      new_here r c h k friction rate low top (no_place t (over_brim rules t rate) brim (came τ t r c).row (came τ t r c).column (came_row τ t r c h k) (came_column τ t r c h k))
+      turned_from τ t _ _ (length_grid (high τ t) (wide τ t) (new_cell rules (turned_table τ t) rate)) (λ r c h k.
+      grid_at (high τ t) (wide τ t) (new_cell rules (turned_table τ t) rate) r c h k
+      ∙ new_here r c h k friction rate low top (no_place t (over_brim rules t rate) brim (came τ t r c).row (came τ t r c).column (came_row τ t r c h k) (came_column τ t r c h k))
       ∙ ap (turned_cell τ) (sym (grid_at t.rows t.columns (new_cell rules t rate) (came τ t r c).row (came τ t r c).column (came_row τ t r c h k) (came_column τ t r c h k))))
 
   passed_turned : (rate : ℕ) (hand : Hand) (p : Passed) → passed_by rules (turned_table τ t) rate hand p ≡ passed_by rules t rate (turned_hand τ hand) p

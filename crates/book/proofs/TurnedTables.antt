@@ -1,5 +1,5 @@
 -- The parts of a turned table: its places, its lists of cells and of sides, and sums and tests along its sides.
-use Rattle.std.proofs.Common.{◌≡◌, ℕ, ◌+◌, ◌-◌, ◌*◌, ◌<◌, ◌≤◌, Bool, ◌||◌, ltb, List, [], ◌∷◌, map, length, get_or, set, replicate, sym, refl, ap, ◌∙◌, subst, ap₂, inl, inr, arith}
+use Rattle.std.proofs.Common.{◌≡◌, ℕ, ◌+◌, ◌-◌, ◌*◌, ◌<◌, ◌≤◌, Bool, ◌||◌, ltb, List, [], ◌∷◌, map, length, get_or, set, replicate, sym, refl, ap, ◌∙◌, ap₂, inl, inr, arith}
 use Rattle.std.proofs.lemmas.List.{length-map, length-set, get_or-set_other, length-replicate, get_or-replicate}
 use Rattle.std.proofs.lemmas.Bool.{cases_eq}
 use Rattle.book.specs.declared.cell.Cell.{Cell}
@@ -72,7 +72,7 @@ mirrored_first : (n : ℕ) → 1 ≤ n → mirrored n 0 ≡ n - 1
 mirrored_first n h = omega (arith, mirrored_in n 0 h)
 
 mirrored_last : (n : ℕ) → 1 ≤ n → mirrored n (n - 1) ≡ 0
-mirrored_last n h = let l : n - 1 < n = omega arith in omega (arith, mirrored_in n (n - 1) l)
+mirrored_last n h = omega (arith, mirrored_in n (n - 1) (omega arith))
 
 module _ {A : Type 0} (B : ℕ → (ℕ → A) → A)
     (same : (n : ℕ) (f g : ℕ → A) → ((k : ℕ) → k < n → f k ≡ g k) → B n f ≡ B n g)
@@ -136,24 +136,28 @@ module _ (τ : Turn) (t : Table) where
   abbrev pub turned_list : List Cell → List Cell
   turned_list xs = (turned_table τ (with_cells t xs)).cells
 
-  -- each cell changed alike
-  pub mapped_turned : (g : Cell → Cell) → ((k : Cell) → g (turned_cell τ k) ≡ turned_cell τ (g k)) → length t.cells ≡ t.rows * t.columns →
-      map g (turned_table τ t).cells ≡ turned_list (map g t.cells)
-  mapped_turned g turns len =
-      grid_from (high τ t) (wide τ t) (map g (turned_table τ t).cells) (λ r c. turned_cell τ (cell_at (with_cells t (map g t.cells)) (came τ t r c).row (came τ t r c).column))
-      (length-map (turned_table τ t).cells g ∙ whole)
-      (λ r c h k.
-      map_at (high τ t) (wide τ t) (turned_table τ t).cells g r c whole h k
-      ∙ (ap g (cell_turned τ t r c h k)
-      ∙ (turns (came_cell τ t r c)
-      ∙ ap (turned_cell τ) (sym (map_at t.rows t.columns t.cells g (came τ t r c).row (came τ t r c).column len (came_row τ t r c h k) (came_column τ t r c h k))))))
-
   -- the numbers of the places that row r and column c come to and come from
   abbrev sent_number : ℕ → ℕ → ℕ
   sent_number r c = (sent τ t r c).row * wide τ t + (sent τ t r c).column
 
-  abbrev came_number : ℕ → ℕ → ℕ
+  abbrev pub came_number : ℕ → ℕ → ℕ
   came_number r c = (came τ t r c).row * t.columns + (came τ t r c).column
+
+  -- a list that has at each place the cell that comes there, turned
+  pub turned_from : (xs ys : List Cell) → length xs ≡ high τ t * wide τ t →
+      ((r c : ℕ) → r < high τ t → c < wide τ t → get_or xs (r * wide τ t + c) no_cell ≡ turned_cell τ (get_or ys (came_number r c) no_cell)) → xs ≡ turned_list ys
+  turned_from xs ys len h = grid_from (high τ t) (wide τ t) xs (λ r c. turned_cell τ (get_or ys (came_number r c) no_cell)) len h
+
+  -- each cell changed alike
+  pub mapped_turned : (g : Cell → Cell) → ((k : Cell) → g (turned_cell τ k) ≡ turned_cell τ (g k)) → length t.cells ≡ t.rows * t.columns →
+      map g (turned_table τ t).cells ≡ turned_list (map g t.cells)
+  mapped_turned g turns len =
+      turned_from _ _ (length-map (turned_table τ t).cells g ∙ whole)
+      (λ r c h k.
+      map_at (high τ t) (wide τ t) (turned_table τ t).cells g r c whole h k
+      ∙ (ap g (cell_turned τ t r c h k)
+      ∙ (turns (came_cell τ t r c)
+      ∙ ap (turned_cell τ) (sym (map_at t.rows t.columns t.cells g _ _ len (came_row τ t r c h k) (came_column τ t r c h k))))))
 
   number_came : (r c i j : ℕ) → r < t.rows → c < t.columns → i < high τ t → j < wide τ t →
       i * wide τ t + j ≡ sent_number r c → came_number i j ≡ r * t.columns + c
@@ -168,42 +172,29 @@ module _ (τ : Turn) (t : Table) where
       ap (λ (p : Place). p.row * wide τ t + p.column) (sym (sent_came τ t i j l m) ∙ ap₂ (sent τ t) at.0 at.1)
 
   -- one cell laid
-  module _ (r c : ℕ) (x : Cell) (h : r < t.rows) (k : c < t.columns) (len : length t.cells ≡ t.rows * t.columns) where
-    laid_here : (i j : ℕ) → i < high τ t → j < wide τ t → i * wide τ t + j ≡ sent_number r c →
-        get_or (set (turned_table τ t).cells (sent_number r c) (turned_cell τ x)) (i * wide τ t + j) no_cell
-        ≡ turned_cell τ (get_or (set t.cells (r * t.columns + c) x) (came_number i j) no_cell)
-    laid_here i j l m e =
-        get_or-set_at (turned_table τ t).cells (sent_number r c) (i * wide τ t + j) (turned_cell τ x) no_cell e
-        (subst (λ n. sent_number r c < n) (sym whole) (place_below (high τ t) (wide τ t) (sent τ t r c).row (sent τ t r c).column (sent_row τ t r c h k) (sent_column τ t r c h k)))
-        ∙ ap (turned_cell τ) (sym (get_or-set_at t.cells (r * t.columns + c) (came_number i j) x no_cell (number_came r c i j h k l m e)
-        (subst (λ n. r * t.columns + c < n) (sym len) (place_below t.rows t.columns r c h k))))
-
-    laid_there : (i j : ℕ) → i < high τ t → j < wide τ t → (i * wide τ t + j ≡ sent_number r c → ⊥) →
-        get_or (set (turned_table τ t).cells (sent_number r c) (turned_cell τ x)) (i * wide τ t + j) no_cell
-        ≡ turned_cell τ (get_or (set t.cells (r * t.columns + c) x) (came_number i j) no_cell)
-    laid_there i j l m e =
-        get_or-set_other (turned_table τ t).cells (sent_number r c) (i * wide τ t + j) (turned_cell τ x) no_cell e
-        ∙ (cell_turned τ t i j l m
-        ∙ ap (turned_cell τ) (sym (get_or-set_other t.cells (r * t.columns + c) (came_number i j) x no_cell (λ q. e (number_sent r c i j h k l m q)))))
-
-    pub laid_turned : set (turned_table τ t).cells (sent_number r c) (turned_cell τ x) ≡ turned_list (set t.cells (r * t.columns + c) x)
-    laid_turned =
-        grid_from (high τ t) (wide τ t) (set (turned_table τ t).cells (sent_number r c) (turned_cell τ x)) (λ i j. turned_cell τ (cell_at (with_cells t (set t.cells (r * t.columns + c) x)) (came τ t i j).row (came τ t i j).column))
-        (length-set (turned_table τ t).cells (sent_number r c) (turned_cell τ x) ∙ whole)
-        (λ i j l m. elim (cases_eq (i * wide τ t + j) (sent_number r c)) [ inl e ↦ laid_here i j l m e | inr e ↦ laid_there i j l m e ])
+  pub laid_turned : (r c : ℕ) (x : Cell) → r < t.rows → c < t.columns → length t.cells ≡ t.rows * t.columns →
+      set (turned_table τ t).cells (sent_number r c) (turned_cell τ x) ≡ turned_list (set t.cells (r * t.columns + c) x)
+  laid_turned r c x h k len =
+      turned_from _ _ (length-set (turned_table τ t).cells (sent_number r c) (turned_cell τ x) ∙ whole) (λ i j l m.
+      elim (cases_eq (i * wide τ t + j) (sent_number r c)) [
+        | inl e ↦
+            get_or-set_at (turned_table τ t).cells (sent_number r c) (i * wide τ t + j) (turned_cell τ x) no_cell e (omega (arith, whole, place_below (high τ t) (wide τ t) _ _ (sent_row τ t r c h k) (sent_column τ t r c h k)))
+            ∙ ap (turned_cell τ) (sym (get_or-set_at t.cells (r * t.columns + c) (came_number i j) x no_cell (number_came r c i j h k l m e) (omega (arith, place_below t.rows t.columns r c h k))))
+        | inr e ↦
+            get_or-set_other (turned_table τ t).cells (sent_number r c) (i * wide τ t + j) (turned_cell τ x) no_cell e
+            ∙ (cell_turned τ t i j l m
+            ∙ ap (turned_cell τ) (sym (get_or-set_other t.cells (r * t.columns + c) (came_number i j) x no_cell (λ q. e (number_sent r c i j h k l m q)))))
+      ])
 
 -- ---- a new sheet
 
-module _ (τ : Turn) (rows columns width : ℕ) where
-  blank_cells : (turned_table τ (blank rows columns width)).cells ≡ replicate (turned_rows τ rows columns * turned_columns τ rows columns) no_cell
-  blank_cells =
-      sym (grid_from (turned_rows τ rows columns) (turned_columns τ rows columns) (replicate (turned_rows τ rows columns * turned_columns τ rows columns) no_cell) (λ r c. turned_cell τ (cell_at (blank rows columns width) (came τ (blank rows columns width) r c).row (came τ (blank rows columns width) r c).column))
-      (length-replicate (turned_rows τ rows columns * turned_columns τ rows columns) no_cell)
-      (λ r c h k.
-      get_or-replicate (turned_rows τ rows columns * turned_columns τ rows columns) (r * turned_columns τ rows columns + c) no_cell no_cell (place_below (turned_rows τ rows columns) (turned_columns τ rows columns) r c h k)
-      ∙ (sym (no_cell_turned τ)
-      ∙ ap (turned_cell τ) (sym (get_or-replicate (rows * columns) ((came τ (blank rows columns width) r c).row * columns + (came τ (blank rows columns width) r c).column) no_cell no_cell
-      (place_below rows columns (came τ (blank rows columns width) r c).row (came τ (blank rows columns width) r c).column (came_row τ (blank rows columns width) r c h k) (came_column τ (blank rows columns width) r c h k)))))))
+blank_cells : (τ : Turn) (rows columns width : ℕ) → replicate (turned_rows τ rows columns * turned_columns τ rows columns) no_cell ≡ (turned_table τ (blank rows columns width)).cells
+blank_cells τ rows columns width =
+    let t : Table = blank rows columns width in
+    turned_from τ t _ t.cells (length-replicate (high τ t * wide τ t) no_cell) (λ r c h k.
+    get_or-replicate (high τ t * wide τ t) (r * wide τ t + c) no_cell no_cell (place_below (high τ t) (wide τ t) r c h k)
+    ∙ (sym (no_cell_turned τ)
+    ∙ ap (turned_cell τ) (sym (get_or-replicate (rows * columns) (came_number τ t r c) no_cell no_cell (place_below rows columns _ _ (came_row τ t r c h k) (came_column τ t r c h k))))))
 
 -- ---- sides
 
@@ -217,7 +208,7 @@ walls_turned τ = refl
 
 pub blank_turned : (τ : Turn) (rows columns width : ℕ) → turned_table τ (blank rows columns width) ≡ blank (turned_rows τ rows columns) (turned_columns τ rows columns) width
 blank_turned τ rows columns width =
-    ap₂ (λ xs ss. record { rows = turned_rows τ rows columns; columns = turned_columns τ rows columns; width = width; cells = xs; sides = ss }) (blank_cells τ rows columns width) (walls_turned τ)
+    ap₂ (λ xs ss. record { rows = turned_rows τ rows columns; columns = turned_columns τ rows columns; width = width; cells = xs; sides = ss }) (sym (blank_cells τ rows columns width)) (walls_turned τ)
 
 sides_set_four : (τ : Turn) (hand : Hand) (a b c d x : Side) →
     turned_sides τ (set (a ∷ b ∷ c ∷ d ∷ []) (side_number hand) x) ≡ set (turned_sides τ (a ∷ b ∷ c ∷ d ∷ [])) (side_number (turned_hand τ hand)) x
