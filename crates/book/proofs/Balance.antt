@@ -2,7 +2,6 @@
 use Rattle.std.proofs.Common.{◌≡◌, ℕ, suc, ◌+◌, ◌<◌, min, false, List, map, refl, ap, subst, ⊎_elim, add-one, arith}
 use lib.IntN.{neg_ℤ-neg_ℤ}
 use Rattle.book.specs.declared.cell.Cell.{Cell}
-use Rattle.book.specs.declared.side.Hand.{Hand}
 use Rattle.book.specs.declared.side.Hand.TheVariants.{West, East, South, North}
 use Rattle.book.specs.declared.account.Account.{Account}
 use Rattle.book.specs.declared.call.Call.{Call}
@@ -11,7 +10,7 @@ use Rattle.rules.specs.Flux.{LawfulFlux}
 use Rattle.rules.specs.Friction.{LawfulFriction}
 use Rattle.book.specs.Faces.{Face}
 use Rattle.book.specs.Step.{Rules, gives, takes}
-use Rattle.book.specs.Sheets.{Table, cell_at, face, span, leaves, arrives, sum_places, sum_side, with_cells, standing, too_slow, stepped}
+use Rattle.book.specs.Sheets.{Table, cell_at, face, span, leaves, arrives, sum_places, with_cells, standing, too_slow, stepped}
 use Rattle.book.specs.Accounts.{account_after_step, rain_more, soak_more}
 use Rattle.book.specs.Calls.{Book, Stage, serving, closed, soaked, rained, at_rest, stage_of, faults, accepted, empty_book, soaked_away, book_after, rained_on}
 use Rattle.book.proofs.Sound.{Sound, SoundAt, SoundBook}
@@ -66,24 +65,18 @@ soak_balanced t sound a n h =
     omega arith
 
 module _ (rules : Rules) (flux : LawfulFlux rules.water rules.push) (t : Table) (sound : Sound t) (rate : ℕ) (paced : too_slow t rate ≡ false) where
-  abbrev passes_out : Hand → ℕ
-  passes_out hand = sum_side t hand (λ r c. leaves rules t rate r c hand)
-
-  abbrev passes_in : Hand → ℕ
-  passes_in hand = sum_side t hand (λ r c. arrives rules t rate r c hand)
-
-  step_standing : standing (stepped rules t rate) + (passes_out West + passes_out East + passes_out South + passes_out North) ≡ standing t + (passes_in West + passes_in East + passes_in South + passes_in North)
-  step_standing =
-      sheet_balance t.rows t.columns (rows_some t sound) (columns_some t sound)
-      (λ r c. (cell_at t r c).depth) (λ r c. (cell_at (stepped rules t rate) r c).depth)
-      (λ r c. arrives rules t rate r c West) (λ r c. arrives rules t rate r c East) (λ r c. arrives rules t rate r c South) (λ r c. arrives rules t rate r c North)
-      (λ r c. leaves rules t rate r c West) (λ r c. leaves rules t rate r c East) (λ r c. leaves rules t rate r c South) (λ r c. leaves rules t rate r c North)
-      (λ r c p q. stepped_exact rules t rate r c p q (not_overdrawn rules flux t sound rate paced r c p q))
-      (λ r c p q. low_takes rules (span t rate) _ _ (east_face t r c q)) (λ r c p q. low_gives rules (span t rate) _ _ (east_face t r c q))
-      (λ c r p q. low_takes rules (span t rate) _ _ (north_face t r c q)) (λ c r p q. low_gives rules (span t rate) _ _ (north_face t r c q))
-
   step_balanced : (a : Account) → BalancedAt serving t a → BalancedAt serving (stepped rules t rate) (account_after_step rules t rate a)
-  step_balanced a h = omega (arith, step_standing)
+  step_balanced a h =
+      omega (
+        arith,
+        sheet_balance t.rows t.columns (rows_some t sound) (columns_some t sound)
+            (λ r c. (cell_at t r c).depth) (λ r c. (cell_at (stepped rules t rate) r c).depth)
+            (λ r c. arrives rules t rate r c West) (λ r c. arrives rules t rate r c East) (λ r c. arrives rules t rate r c South) (λ r c. arrives rules t rate r c North)
+            (λ r c. leaves rules t rate r c West) (λ r c. leaves rules t rate r c East) (λ r c. leaves rules t rate r c South) (λ r c. leaves rules t rate r c North)
+            (λ r c p q. stepped_exact rules t rate r c p q (not_overdrawn rules flux t sound rate paced r c p q))
+            (λ r c p q. low_takes rules (span t rate) _ _ (east_face t r c q)) (λ r c p q. low_gives rules (span t rate) _ _ (east_face t r c q))
+            (λ c r p q. low_takes rules (span t rate) _ _ (north_face t r c q)) (λ c r p q. low_gives rules (span t rate) _ _ (north_face t r c q)),
+      )
 
 module _ (rules : Rules) (flux : LawfulFlux rules.water rules.push) (friction : LawfulFriction rules.slowed) where
   accepted_balanced : (b : Book) (x : Call) → BalancedBook b → SoundAt (stage_of x) b.table → BalancedAt (stage_of x) b.table b.account → NoneThere (faults rules b x) → BalancedBook (accepted rules b x).book

@@ -1,5 +1,5 @@
 -- One step of one cell: the turned faces make of the turned cell the new cell, turned.
-use Rattle.std.proofs.Common.{◌≡◌, ℕ, ◌+◌, ◌-◌, ◌*◌, ◌≤◌, Bool, true, false, cond, ◌||◌, ltb, ℤ, pos, ◌-ℤ◌, ◌*ℤ◌, neg_ℤ, nat_abs, refl, ap, ◌∙◌, arith}
+use Rattle.std.proofs.Common.{◌≡◌, ℕ, ◌+◌, ◌-◌, ◌≤◌, Bool, true, false, cond, ◌||◌, ltb, ℤ, pos, ◌*ℤ◌, neg_ℤ, nat_abs, refl, ap, ◌∙◌, arith}
 use lib.IntN.{neg_ℤ-neg_ℤ}
 use lib.Signed.{lt_z}
 use Rattle.std.proofs.lemmas.Int.{ints}
@@ -12,15 +12,15 @@ use Rattle.rules.specs.Side.{face_pace, pace_of}
 use Rattle.book.specs.declared.turn.Turn.{Turn}
 use Rattle.book.specs.declared.turn.Turn.TheVariants.{EastWest, SouthNorth, RowsColumns}
 use Rattle.book.specs.Ranges.{max_depth, max_velocity, max_rate}
-use Rattle.book.specs.Numbers.{trunc, share, thinned, positive, velocity}
+use Rattle.book.specs.Numbers.{film, trunc, thinned, positive, velocity}
 use Rattle.book.specs.Faces.{Face, own_depth, pace}
-use Rattle.book.specs.Step.{Rules, thrust, all_hands, speed, past_brim, water, push, carried, outward, gives, takes, pressed, east_thrust, north_thrust, depth_after, raw_east, raw_north, brim_after, cell_after}
+use Rattle.book.specs.Step.{Rules, all_hands, speed, past_brim, water, push, carried, outward, gives, takes, pressed, east_thrust, north_thrust, depth_after, raw_east, raw_north, brim_after, cell_after}
 use Rattle.book.specs.Turns.{turned_hand, turned_cell}
 use Rattle.book.proofs.Sound.{Ranged, FacingBoth}
 use Rattle.rules.specs.Ints.{mul_neg, quot_neg}
 use Rattle.book.proofs.Numbers.{share_neg, velocity_neg, speed_neg, thinned_neg, friction_speed_neg_east, friction_speed_neg_north, friction_speed_swap, carried_swap}
 use Rattle.std.proofs.Math.Bool.{or_comm}
-use Rattle.book.proofs.Steps.{below_brim, slowing}
+use Rattle.book.proofs.Steps.{BelowBrim, below_brim, slowing}
 use Rattle.book.proofs.TurnedFaces.{flip, counter, turned_face}
 
 -- ---- faces
@@ -46,9 +46,6 @@ pace_turned τ hand f = go τ hand
 cond_neg : (b : Bool) (x y : ℤ) → cond b (neg_ℤ x) (neg_ℤ y) ≡ neg_ℤ (cond b x y)
 cond_neg true x y = refl
 cond_neg false x y = refl
-
-same_thrust : (a b c d a' b' c' d' : ℤ) → a ≡ a' → b ≡ b' → c ≡ c' → d ≡ d' → thrust a b c d ≡ thrust a' b' c' d'
-same_thrust a b c d a' b' c' d' e₁ e₂ e₃ e₄ = λ i. thrust (e₁ i) (e₂ i) (e₃ i) (e₄ i)
 
 module _ (rules : Rules) (flux : LawfulFlux rules.water rules.push) where
   water_flip : (f : Face) → FacingBoth f → water rules (flip f) ≡ neg_ℤ (water rules f)
@@ -86,12 +83,6 @@ module _ (rules : Rules) (flux : LawfulFlux rules.water rules.push) where
   pressed_turned SouthNorth North d f h = pressed_flip d North South f refl h
   pressed_turned RowsColumns West d f h = refl
   pressed_turned τ hand d f h = refl
-
-thrust_neg : (a b c d : ℤ) → thrust a b (neg_ℤ c) (neg_ℤ d) ≡ neg_ℤ (thrust b a c d)
-thrust_neg a b c d = omega (arith, ints)
-
-thrust_swap : (a b c d : ℤ) → thrust a b (neg_ℤ c) (neg_ℤ d) ≡ thrust a b d c
-thrust_swap a b c d = omega (arith, ints)
 
 -- ---- the turned cell
 
@@ -136,26 +127,17 @@ module _ (rules : Rules) (flux : LawfulFlux rules.water rules.push) where
   module _ (cell : Cell) (F : Hand → Face) (facing : (hand : Hand) → FacingBoth (F hand)) where
     east_thrust_columns : east_thrust rules (turned_cell EastWest cell) (turned_faces EastWest F) ≡ neg_ℤ (east_thrust rules cell F)
     east_thrust_columns =
-        same_thrust _ _ _ _ _ _ _ _ (pressed_turned rules flux EastWest East cell.depth (F West) (facing West)) (pressed_turned rules flux EastWest West cell.depth (F East) (facing East)) (carried_counter rules flux (F North)) (carried_counter rules flux (F South))
-        ∙ thrust_neg (pressed rules cell.depth West (F West)) (pressed rules cell.depth East (F East)) (carried rules (F North)) (carried rules (F South))
+        omega (arith, ints, pressed_turned rules flux EastWest East cell.depth (F West) (facing West), pressed_turned rules flux EastWest West cell.depth (F East) (facing East), carried_counter rules flux (F North), carried_counter rules flux (F South))
 
     north_thrust_columns : north_thrust rules (turned_cell EastWest cell) (turned_faces EastWest F) ≡ north_thrust rules cell F
-    north_thrust_columns =
-        same_thrust _ _ _ _ _ _ _ _ (pressed_turned rules flux EastWest North cell.depth (F North) (facing North)) (pressed_turned rules flux EastWest South cell.depth (F South) (facing South)) (carried_flip rules flux (F West) (facing West)) (carried_flip rules flux (F East) (facing East))
-        ∙ thrust_swap (pressed rules cell.depth North (F North)) (pressed rules cell.depth South (F South)) (carried rules (F West)) (carried rules (F East))
+    north_thrust_columns = omega (arith, ints, carried_flip rules flux (F West) (facing West), carried_flip rules flux (F East) (facing East))
 
     north_thrust_rows : north_thrust rules (turned_cell SouthNorth cell) (turned_faces SouthNorth F) ≡ neg_ℤ (north_thrust rules cell F)
     north_thrust_rows =
-        same_thrust _ _ _ _ _ _ _ _ (pressed_turned rules flux SouthNorth North cell.depth (F South) (facing South)) (pressed_turned rules flux SouthNorth South cell.depth (F North) (facing North)) (carried_counter rules flux (F East)) (carried_counter rules flux (F West))
-        ∙ thrust_neg (pressed rules cell.depth South (F South)) (pressed rules cell.depth North (F North)) (carried rules (F East)) (carried rules (F West))
+        omega (arith, ints, pressed_turned rules flux SouthNorth North cell.depth (F South) (facing South), pressed_turned rules flux SouthNorth South cell.depth (F North) (facing North), carried_counter rules flux (F East), carried_counter rules flux (F West))
 
     east_thrust_rows : east_thrust rules (turned_cell SouthNorth cell) (turned_faces SouthNorth F) ≡ east_thrust rules cell F
-    east_thrust_rows =
-        same_thrust _ _ _ _ _ _ _ _ (pressed_turned rules flux SouthNorth East cell.depth (F East) (facing East)) (pressed_turned rules flux SouthNorth West cell.depth (F West) (facing West)) (carried_flip rules flux (F South) (facing South)) (carried_flip rules flux (F North) (facing North))
-        ∙ thrust_swap (pressed rules cell.depth East (F East)) (pressed rules cell.depth West (F West)) (carried rules (F South)) (carried rules (F North))
-
-    raw_reversed : (k : ℕ) (q z z' : ℤ) → z' ≡ neg_ℤ z → neg_ℤ q -ℤ share z' (20 * k) ≡ neg_ℤ (q -ℤ share z (20 * k))
-    raw_reversed k q z z' e = rw (e, share_neg) (omega (arith, ints))
+    east_thrust_rows = omega (arith, ints, carried_flip rules flux (F South) (facing South), carried_flip rules flux (F North) (facing North))
 
     module _ (k : ℕ) where
       depth_turned : (τ : Turn) → depth_after rules (turned_cell τ cell) (turned_faces τ F) k ≡ depth_after rules cell F k
@@ -164,16 +146,16 @@ module _ (rules : Rules) (flux : LawfulFlux rules.water rules.push) where
           - all_turned τ (λ hand. gives rules k hand (turned_faces τ F hand)) (λ hand. gives rules k hand (F hand)) (λ hand. gives_turned τ hand k (F (turned_hand τ hand)) (facing (turned_hand τ hand))) i
 
       east_columns : raw_east rules (turned_cell EastWest cell) (turned_faces EastWest F) k ≡ neg_ℤ (raw_east rules cell F k)
-      east_columns = raw_reversed k cell.east (east_thrust rules cell F) (east_thrust rules (turned_cell EastWest cell) (turned_faces EastWest F)) east_thrust_columns
+      east_columns = rw (east_thrust_columns, share_neg) (omega (arith, ints))
 
       north_columns : raw_north rules (turned_cell EastWest cell) (turned_faces EastWest F) k ≡ raw_north rules cell F k
-      north_columns = ap (λ z. cell.north -ℤ share z (20 * k)) north_thrust_columns
+      north_columns = rw north_thrust_columns
 
       north_rows : raw_north rules (turned_cell SouthNorth cell) (turned_faces SouthNorth F) k ≡ neg_ℤ (raw_north rules cell F k)
-      north_rows = raw_reversed k cell.north (north_thrust rules cell F) (north_thrust rules (turned_cell SouthNorth cell) (turned_faces SouthNorth F)) north_thrust_rows
+      north_rows = rw (north_thrust_rows, share_neg) (omega (arith, ints))
 
       east_rows : raw_east rules (turned_cell SouthNorth cell) (turned_faces SouthNorth F) k ≡ raw_east rules cell F k
-      east_rows = ap (λ z. cell.east -ℤ share z (20 * k)) east_thrust_rows
+      east_rows = rw east_thrust_rows
 
       pub brim_turned : (τ : Turn) → brim_after rules (turned_cell τ cell) (turned_faces τ F) k ≡ brim_after rules cell F k
       brim_turned EastWest = (λ i. past_brim (depth_turned EastWest i) (east_columns i) (north_columns i)) ∙ brim_neg_east (depth_after rules cell F k) (raw_east rules cell F k) (raw_north rules cell F k)
@@ -186,26 +168,18 @@ module _ (rules : Rules) (flux : LawfulFlux rules.water rules.push) where
         abbrev flow : ℕ → ℤ → ℕ → ℤ
         flow h q u = thinned h (rules.slowed q u h rate)
 
-        east_reversed : flow (depth_after rules cell F k) (neg_ℤ (raw_east rules cell F k)) (speed cell) ≡ neg_ℤ (flow (depth_after rules cell F k) (raw_east rules cell F k) (speed cell))
-        east_reversed =
-            let h : ℕ = depth_after rules cell F k in
-            let q : ℤ = raw_east rules cell F k in
-            thinned_neg h (rules.slowed (neg_ℤ q) (speed cell) h rate) (rules.slowed q (speed cell) h rate)
-            (λ deep. let b = below_brim h q (raw_north rules cell F k) brim deep in friction.reversed q (speed cell) h rate (slowing cell ranged rate low high h deep b.shallow q b.slow_east))
+        below : film ≤ depth_after rules cell F k → BelowBrim (depth_after rules cell F k) (raw_east rules cell F k) (raw_north rules cell F k)
+        below deep = below_brim _ _ _ brim deep
 
-        north_reversed : flow (depth_after rules cell F k) (neg_ℤ (raw_north rules cell F k)) (speed cell) ≡ neg_ℤ (flow (depth_after rules cell F k) (raw_north rules cell F k) (speed cell))
-        north_reversed =
-            let h : ℕ = depth_after rules cell F k in
-            let q : ℤ = raw_north rules cell F k in
-            thinned_neg h (rules.slowed (neg_ℤ q) (speed cell) h rate) (rules.slowed q (speed cell) h rate)
-            (λ deep. let b = below_brim h (raw_east rules cell F k) q brim deep in friction.reversed q (speed cell) h rate (slowing cell ranged rate low high h deep b.shallow q b.slow_north))
+        reversed : (q : ℤ) → (film ≤ depth_after rules cell F k → nat_abs (velocity q (depth_after rules cell F k)) ≤ max_velocity) → flow (depth_after rules cell F k) (neg_ℤ q) (speed cell) ≡ neg_ℤ (flow (depth_after rules cell F k) q (speed cell))
+        reversed q slow = thinned_neg (depth_after rules cell F k) _ _ (λ deep. friction.reversed q (speed cell) _ rate (slowing cell ranged rate low high _ deep (below deep).shallow q (slow deep)))
 
         pub new_turned : (τ : Turn) → cell_after rules (turned_cell τ cell) (turned_faces τ F) k rate ≡ turned_cell τ (cell_after rules cell F k rate)
         new_turned EastWest =
-            let east = (λ i. flow (depth_turned EastWest i) (east_columns i) (speed_turned EastWest cell i)) ∙ east_reversed in
+            let east = (λ i. flow (depth_turned EastWest i) (east_columns i) (speed_turned EastWest cell i)) ∙ reversed (raw_east rules cell F k) (λ deep. (below deep).slow_east) in
             λ i. record { laid = cell.laid; bed = cell.bed; depth = depth_turned EastWest i; east = east i; north = flow (depth_turned EastWest i) (north_columns i) (speed_turned EastWest cell i) }
         new_turned SouthNorth =
-            let north = (λ i. flow (depth_turned SouthNorth i) (north_rows i) (speed_turned SouthNorth cell i)) ∙ north_reversed in
+            let north = (λ i. flow (depth_turned SouthNorth i) (north_rows i) (speed_turned SouthNorth cell i)) ∙ reversed (raw_north rules cell F k) (λ deep. (below deep).slow_north) in
             λ i. record { laid = cell.laid; bed = cell.bed; depth = depth_turned SouthNorth i; east = flow (depth_turned SouthNorth i) (east_rows i) (speed_turned SouthNorth cell i); north = north i }
         new_turned RowsColumns =
             λ i. record { laid = cell.laid; bed = cell.bed; depth = depth_turned RowsColumns i; east = flow (depth_turned RowsColumns i) (raw_north rules cell F k) (speed_turned RowsColumns cell i); north = flow (depth_turned RowsColumns i) (raw_east rules cell F k) (speed_turned RowsColumns cell i) }
