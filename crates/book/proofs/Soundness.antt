@@ -103,15 +103,13 @@ module _ (t : Table) (sound : Sound t) (hand : Hand) (s : Side) (allowed : Allow
 
   set_ghosts : (other : Hand) (k : ℕ) → k < border_length t.rows t.columns other →
       GhostKept (get_or (set t.sides (side_number hand) s) (side_number other) Wall) (border_cell t other k)
-  set_ghosts other k h = ⊎_elim same apart (cases_eq (side_number other) (side_number hand))
-    where
-      same : side_number other ≡ side_number hand → GhostKept (get_or (set t.sides (side_number hand) s) (side_number other) Wall) (border_cell t other k)
-      same n =
-          let is : hand ≡ other = sym (hand_there hand) ∙ (ap hand_of (sym n) ∙ hand_there other) in
-          rw (get_or-set_at t.sides (side_number hand) (side_number other) s Wall n (omega (arith, number_below hand, sound.four))) (changed_ghosts s allowed other (subst (λ x. held_over t x s ≡ false) is over) k h)
-
-      apart : (side_number other ≡ side_number hand → ⊥) → GhostKept (get_or (set t.sides (side_number hand) s) (side_number other) Wall) (border_cell t other k)
-      apart n = rw (get_or-set_other t.sides (side_number hand) (side_number other) s Wall n) (sound.ghosts other k h)
+  set_ghosts other k h =
+      ⊎_elim
+      (λ n.
+      let is : hand ≡ other = sym (hand_there hand) ∙ (ap hand_of (sym n) ∙ hand_there other) in
+      rw (get_or-set_at t.sides (side_number hand) (side_number other) s Wall n (omega (arith, number_below hand, sound.four))) (changed_ghosts s allowed other (subst (λ x. held_over t x s ≡ false) is over) k h))
+      (λ n. rw (get_or-set_other t.sides (side_number hand) (side_number other) s Wall n) (sound.ghosts other k h))
+      (cases_eq (side_number other) (side_number hand))
 
   change_sound : Sound (with_sides t (set t.sides (side_number hand) s))
   change_sound = sides_sound t (set t.sides (side_number hand) s) sound (length-set t.sides (side_number hand) s ∙ sound.four) set_ghosts

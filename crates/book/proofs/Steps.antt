@@ -74,21 +74,17 @@ pub still_ranged : (laid : Bool) (bed : ℤ) (h : ℕ) → nat_abs bed ≤ max_b
 still_ranged laid bed h a b = record { bed = a; depth = b; dry_east = λ _. refl; dry_north = λ _. refl; slow_east = still_slow h; slow_north = still_slow h }
 
 thinned_ranged : (laid : Bool) (bed : ℤ) (h : ℕ) (e n : ℤ) → nat_abs bed ≤ max_bed → (film ≤ h → BelowBrim h e n) → Ranged (record { laid = laid; bed = bed; depth = h; east = thinned h e; north = thinned h n })
-thinned_ranged laid bed h e n a g = ⊎_elim thin deep (cases_lt h film)
-  where
-    thin : h < film → Ranged (record { laid = laid; bed = bed; depth = h; east = thinned h e; north = thinned h n })
-    thin l = rw lt-ltb (still_ranged laid bed h a (omega (arith, film_shallow)))
-
-    deep : film ≤ h → Ranged (record { laid = laid; bed = bed; depth = h; east = thinned h e; north = thinned h n })
-    deep l =
-        rw le-ltb (record {
-          bed = a;
-          depth = (g l).shallow;
-          dry_east = λ m. absurd (omega (arith, film_wet));
-          dry_north = λ m. absurd (omega (arith, film_wet));
-          slow_east = (g l).slow_east;
-          slow_north = (g l).slow_north;
-        })
+thinned_ranged laid bed h e n a g =
+    ⊎_elim (λ (l : h < film). rw lt-ltb (still_ranged laid bed h a (omega (arith, film_shallow))))
+    (λ (l : film ≤ h). rw le-ltb (record {
+      bed = a;
+      depth = (g l).shallow;
+      dry_east = λ m. absurd (omega (arith, film_wet));
+      dry_north = λ m. absurd (omega (arith, film_wet));
+      slow_east = (g l).slow_east;
+      slow_north = (g l).slow_north;
+    }))
+    (cases_lt h film)
 
 module _ (rules : Rules) (friction : LawfulFriction rules.slowed) where
   slowed_slow : (q : ℤ) (u h d : ℕ) → Slowing q u h d → nat_abs (velocity q h) ≤ max_velocity → nat_abs (velocity (rules.slowed q u h d) h) ≤ max_velocity

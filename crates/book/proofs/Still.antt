@@ -1,5 +1,5 @@
 -- Still water stays as it is.
-use Rattle.std.proofs.Common.{◌≡◌, ℕ, ◌*◌, ◌<◌, ◌≤◌, true, false, ltb, ◌⊎◌, List, [], ◌∷◌, ℤ, pos, ◌+ℤ◌, ◌-ℤ◌, ◌*ℤ◌, neg_ℤ, Some, None, Option, sym, refl, ap, ◌∙◌, subst, inl, inr, arith}
+use Rattle.std.proofs.Common.{◌≡◌, ℕ, ◌*◌, ◌<◌, ◌≤◌, true, false, ltb, ◌⊎◌, List, [], ◌∷◌, ℤ, pos, ◌-ℤ◌, neg_ℤ, Some, None, Option, sym, refl, ap, ◌∙◌, subst, inl, inr, arith}
 use Rattle.std.proofs.lemmas.Int.{ints}
 use Rattle.std.proofs.lemmas.Bool.{false≢true, ltb-false, cond_both}
 use Rattle.book.specs.declared.cell.Cell.{Cell}
@@ -17,7 +17,7 @@ use Rattle.rules.specs.Side.{discharge, momentum}
 use Rattle.book.specs.Ranges.{max_rate}
 use Rattle.book.specs.Numbers.{film, thinned, share}
 use Rattle.book.specs.Faces.{Column, Face, column, ghost, meet, face_of, own_depth}
-use Rattle.book.specs.Step.{Rules, thrust, speed, water, push, carried, pressed, east_thrust, north_thrust, depth_after, raw_east, raw_north, cell_after}
+use Rattle.book.specs.Step.{Rules, speed, water, push, carried, pressed, east_thrust, north_thrust, depth_after, raw_east, raw_north, cell_after}
 use Rattle.book.specs.Sheets.{Table, Place, cell_at, side_at, span, neighbour, seen, beyond, face, new_cell, grid, with_cells}
 use Rattle.book.specs.Accounts.{passed_by, account_after_step}
 use Rattle.book.specs.Calls.{Book, serving, faults, accepted, answer, after, book_after}
@@ -43,15 +43,6 @@ weight_only : (d : ℕ) → momentum d (pos 0) ≡ pos (981 * (d * d))
 unfolding momentum
 weight_only d = omega (arith, ints)
 
-held_back : (p : ℤ) (o d h : ℕ) → p ≡ pos (981 * (d * d)) → o ≡ d → p +ℤ (pos 981 *ℤ (pos (h * h) -ℤ pos (o * o))) ≡ pos (981 * (h * h))
-held_back p o d h e f = rw (e, f) (balance (h * h) (d * d))
-  where
-    balance : (a b : ℕ) → pos (981 * b) +ℤ (pos 981 *ℤ (pos a -ℤ pos b)) ≡ pos (981 * a)
-    balance a b = omega (arith, ints)
-
-no_thrust : (a b x y p : ℤ) → a ≡ p → b ≡ p → x ≡ pos 0 → y ≡ pos 0 → thrust a b x y ≡ pos 0
-no_thrust a b x y p d e f g = omega (arith, ints)
-
 no_change : (q z : ℤ) (k : ℕ) → q ≡ pos 0 → z ≡ pos 0 → q -ℤ share z k ≡ pos 0
 no_change q z k e f = rw (e, f, share_zero) refl
 
@@ -76,7 +67,8 @@ module _ (rules : Rules) (flux : LawfulFlux rules.water rules.push) where
 
   level_pressed : (h : ℕ) (hand : Hand) (f : Face) → Level f → pressed rules h hand f ≡ pos (981 * (h * h))
   level_pressed h hand f l =
-      held_back (push rules f) (own_depth hand f) f.left.depth h (cc (flux.even_push f.left.depth f.left.normal l.facing.left, weight_only f.left.depth)) (own_left hand f l)
+      let e : push rules f ≡ pos (981 * (f.left.depth * f.left.depth)) = cc (flux.even_push f.left.depth f.left.normal l.facing.left, weight_only f.left.depth) in
+      rw (own_left hand f l) (omega (arith, ints))
 
   none_carried : (f : Face) → Level f → carried rules f ≡ pos 0
   none_carried f l = carried_none (water rules f) f.left.along f.right.along (no_water f l)
@@ -91,12 +83,12 @@ module _ (rules : Rules) (flux : LawfulFlux rules.water rules.push) where
     no_raw_east : raw_east rules cell faces k ≡ pos 0
     no_raw_east =
         no_change cell.east (east_thrust rules cell faces) (20 * k) still_east
-        (no_thrust _ _ _ _ _ (level_pressed cell.depth East (faces East) (level East)) (level_pressed cell.depth West (faces West) (level West)) (none_carried (faces North) (level North)) (none_carried (faces South) (level South)))
+        (omega (arith, ints, level_pressed cell.depth East (faces East) (level East), level_pressed cell.depth West (faces West) (level West), none_carried (faces North) (level North), none_carried (faces South) (level South)))
 
     no_raw_north : raw_north rules cell faces k ≡ pos 0
     no_raw_north =
         no_change cell.north (north_thrust rules cell faces) (20 * k) still_north
-        (no_thrust _ _ _ _ _ (level_pressed cell.depth North (faces North) (level North)) (level_pressed cell.depth South (faces South) (level South)) (none_carried (faces East) (level East)) (none_carried (faces West) (level West)))
+        (omega (arith, ints, level_pressed cell.depth North (faces North) (level North), level_pressed cell.depth South (faces South) (level South), none_carried (faces East) (level East), none_carried (faces West) (level West)))
 
     module _ (ranged : Ranged cell) (rate : ℕ) (low : 1 ≤ rate) (high : rate ≤ max_rate) where
       no_flow : (h : ℕ) (q : ℤ) → h ≡ cell.depth → q ≡ pos 0 → thinned h (rules.slowed q (speed cell) h rate) ≡ pos 0

@@ -1,10 +1,9 @@
 -- One call: the turned book answers the turned call as the book answers the call, turned.
-use Rattle.std.proofs.Common.{◌≡◌, ℕ, ◌+◌, ◌*◌, ◌<◌, min, Bool, true, false, cond, not, ◌||◌, eqb, ltb, List, [], ◌∷◌, set, Some, None, sym, refl, ap, ◌∙◌, subst, ap₂, ⊎_elim}
-use Rattle.std.proofs.lemmas.Bool.{or_parts}
+use Rattle.std.proofs.Common.{◌≡◌, ℕ, ◌+◌, ◌*◌, ◌<◌, min, Bool, true, false, cond, not, ◌||◌, ltb, List, [], ◌∷◌, set, Some, None, sym, refl, ap, ◌∙◌, subst, ap₂, ⊎_elim}
+use Rattle.std.proofs.lemmas.Bool.{or_parts, cases_Bool}
 use Rattle.book.specs.declared.call.Call.{Call}
 use Rattle.book.specs.declared.call.Call.TheVariants.{Prepare, Lay, Open as Opening, Step, Rain, Soak, ChangeSide, AskCell, AskStanding, AskSlowestRate}
-use Rattle.book.specs.declared.refusal.Refusal.TheVariants.{OutOfStage}
-use Rattle.book.specs.declared.reply.Reply.TheVariants.{Done, Refused, CellIs, StandingIs, RateIs}
+use Rattle.book.specs.declared.reply.Reply.TheVariants.{Done, CellIs, StandingIs, RateIs}
 use Rattle.rules.specs.Flux.{LawfulFlux}
 use Rattle.rules.specs.Friction.{LawfulFriction}
 use Rattle.book.specs.declared.turn.Turn.{Turn}
@@ -12,7 +11,7 @@ use Rattle.book.specs.Ranges.{max_depth, max_rate}
 use Rattle.book.specs.Step.{Rules}
 use Rattle.book.specs.Sheets.{Place, cell_at, side_number, with_cells, with_sides, off_sheet, standing}
 use Rattle.book.specs.Accounts.{full, poured_only, rain_more, soak_more, account_after_step}
-use Rattle.book.specs.Calls.{Book, start, preparing, serving, Page, Fault, unchanged, on_page, soaked_away, fresh, at_rest, rained, soaked, hand_of, side_of, side_amiss, held_over, stage_of, stage_number, fits, judged, faults, accepted, answer, rained_on}
+use Rattle.book.specs.Calls.{Book, start, preparing, serving, Page, Fault, unchanged, on_page, soaked_away, fresh, at_rest, rained, soaked, hand_of, side_of, side_amiss, held_over, stage_of, fits, judged, faults, accepted, answer, rained_on}
 use Rattle.book.specs.Turns.{turned_hand, turned_cell, turned_table, turned_account, turned_call, turned_asked, turned_reply, turned_book}
 use Rattle.book.proofs.Sound.{SoundAt, SoundBook}
 use Rattle.book.specs.Laws.{OfSize}
@@ -40,14 +39,7 @@ judged_turned : (τ : Turn) (xs ys : List Fault) (b : Book) (p' p : Page) → Al
 judged_turned τ [] [] b p' p a h = h tt
 judged_turned τ [] (y ∷ ys) b p' p a h = absurd a
 judged_turned τ (x ∷ xs) [] b p' p a h = absurd a
-judged_turned τ (x ∷ xs) (y ∷ ys) b p' p a h =
-    (λ i. cond (a.0 i) (unchanged (turned_book τ b) (Refused (a.1 i))) (judged xs (turned_book τ b) p'))
-    ∙ by y.there refl (judged_turned τ xs ys b p' p)
-  where
-    by : (v : Bool) → y.there ≡ v → (Alike xs ys → (NoneThere ys → p' ≡ turned_page τ p) → judged xs (turned_book τ b) p' ≡ turned_page τ (judged ys b p)) →
-        cond v (unchanged (turned_book τ b) (Refused y.why)) (judged xs (turned_book τ b) p') ≡ turned_page τ (cond v (unchanged b (Refused y.why)) (judged ys b p))
-    by true e rest = refl
-    by false e rest = rest (a.2 e) (λ n. h (e, n))
+judged_turned τ (x ∷ xs) (y ∷ ys) b p' p a h = rw (a.0, a.1) (⊎_elim (λ e. rw e) (λ e. rw e (judged_turned τ xs ys b p' p (a.2 e) (λ n. h (e, n)))) (cases_Bool y.there))
 
 -- ---- a call on its sheet
 
@@ -160,17 +152,10 @@ module _ (τ : Turn) (rows columns : ℕ) (b : Book) (size : OfSize rows columns
   module _ (rules : Rules) (flux : LawfulFlux rules.water rules.push) (friction : LawfulFriction rules.slowed) (sound : SoundBook b) where
     pub answer_turned : (x : Call) → answer rules (turned_book τ b) (turned_call τ rows columns x) ≡ turned_page τ (answer rules b x)
     answer_turned x =
-        ap (λ s. cond (not (eqb (stage_number b.stage) (stage_number s))) (unchanged (turned_book τ b) (Refused OutOfStage)) (judged_as (turned_call τ rows columns x))) (stage_turned τ rows columns x)
-        ∙ by (fits b.stage x) refl
-      where
-        judged_as : Call → Page
-        judged_as y = judged (faults rules (turned_book τ b) y) (turned_book τ b) (accepted rules (turned_book τ b) y)
-
-        by : (v : Bool) → fits b.stage x ≡ v → cond (not v) (unchanged (turned_book τ b) (Refused OutOfStage)) (judged_as (turned_call τ rows columns x))
-            ≡ turned_page τ (cond (not v) (unchanged b (Refused OutOfStage)) (judged (faults rules b x) b (accepted rules b x)))
-        by true f =
-            let e = stage_is b.stage x f in
-            let s : SoundAt (stage_of x) b.table = subst (λ z. SoundAt z b.table) e sound in
-            ap judged_as (same_call x e)
-            ∙ judged_turned τ (faults rules (turned_book τ b) (turned_call τ b.table.rows b.table.columns x)) (faults rules b x) b _ _ (faults_turned rules flux friction τ b x s) (accepted_turned rules flux friction τ b x s)
-        by false f = refl
+        rw (stage_turned τ rows columns x)
+        (⊎_elim
+        (λ f.
+        let e = stage_is b.stage x f in
+        let s : SoundAt (stage_of x) b.table = subst (λ z. SoundAt z b.table) e sound in
+        rw (f, same_call x e) (judged_turned τ _ _ b _ _ (faults_turned rules flux friction τ b x s) (accepted_turned rules flux friction τ b x s)))
+        (λ f. rw f) (cases_Bool (fits b.stage x)))

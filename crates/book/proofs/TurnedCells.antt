@@ -13,8 +13,8 @@ use Rattle.book.specs.declared.turn.Turn.{Turn}
 use Rattle.book.specs.declared.turn.Turn.TheVariants.{EastWest, SouthNorth, RowsColumns}
 use Rattle.book.specs.Ranges.{max_depth, max_velocity, max_rate}
 use Rattle.book.specs.Numbers.{film, trunc, thinned, positive, velocity}
-use Rattle.book.specs.Faces.{Face, own_depth, pace}
-use Rattle.book.specs.Step.{Rules, all_hands, speed, past_brim, water, push, carried, outward, gives, takes, pressed, east_thrust, north_thrust, depth_after, raw_east, raw_north, brim_after, cell_after}
+use Rattle.book.specs.Faces.{Face, pace}
+use Rattle.book.specs.Step.{Rules, all_hands, speed, past_brim, water, push, carried, outward, gives, takes, east_thrust, north_thrust, depth_after, raw_east, raw_north, brim_after, cell_after}
 use Rattle.book.specs.Turns.{turned_hand, turned_cell}
 use Rattle.book.proofs.Sound.{Ranged, FacingBoth}
 use Rattle.rules.specs.Ints.{mul_neg, quot_neg}
@@ -73,17 +73,6 @@ module _ (rules : Rules) (flux : LawfulFlux rules.water rules.push) where
   outward_turned RowsColumns West K f h = refl
   outward_turned τ hand K f h = refl
 
-  pressed_flip : (d : ℕ) (hand to : Hand) (f : Face) → own_depth hand (flip f) ≡ own_depth to f → FacingBoth f → pressed rules d hand (flip f) ≡ pressed rules d to f
-  pressed_flip d hand to f e h = rw (push_flip f h, e)
-
-  pressed_turned : (τ : Turn) (hand : Hand) (d : ℕ) (f : Face) → FacingBoth f → pressed rules d hand (turned_face τ hand f) ≡ pressed rules d (turned_hand τ hand) f
-  pressed_turned EastWest West d f h = pressed_flip d West East f refl h
-  pressed_turned EastWest East d f h = pressed_flip d East West f refl h
-  pressed_turned SouthNorth South d f h = pressed_flip d South North f refl h
-  pressed_turned SouthNorth North d f h = pressed_flip d North South f refl h
-  pressed_turned RowsColumns West d f h = refl
-  pressed_turned τ hand d f h = refl
-
 -- ---- the turned cell
 
 all_turned : (τ : Turn) (f g : Hand → ℕ) → ((hand : Hand) → f hand ≡ g (turned_hand τ hand)) → all_hands f ≡ all_hands g
@@ -127,14 +116,14 @@ module _ (rules : Rules) (flux : LawfulFlux rules.water rules.push) where
   module _ (cell : Cell) (F : Hand → Face) (facing : (hand : Hand) → FacingBoth (F hand)) where
     east_thrust_columns : east_thrust rules (turned_cell EastWest cell) (turned_faces EastWest F) ≡ neg_ℤ (east_thrust rules cell F)
     east_thrust_columns =
-        omega (arith, ints, pressed_turned rules flux EastWest East cell.depth (F West) (facing West), pressed_turned rules flux EastWest West cell.depth (F East) (facing East), carried_counter rules flux (F North), carried_counter rules flux (F South))
+        omega (arith, ints, push_flip rules flux (F West) (facing West), push_flip rules flux (F East) (facing East), carried_counter rules flux (F North), carried_counter rules flux (F South))
 
     north_thrust_columns : north_thrust rules (turned_cell EastWest cell) (turned_faces EastWest F) ≡ north_thrust rules cell F
     north_thrust_columns = omega (arith, ints, carried_flip rules flux (F West) (facing West), carried_flip rules flux (F East) (facing East))
 
     north_thrust_rows : north_thrust rules (turned_cell SouthNorth cell) (turned_faces SouthNorth F) ≡ neg_ℤ (north_thrust rules cell F)
     north_thrust_rows =
-        omega (arith, ints, pressed_turned rules flux SouthNorth North cell.depth (F South) (facing South), pressed_turned rules flux SouthNorth South cell.depth (F North) (facing North), carried_counter rules flux (F East), carried_counter rules flux (F West))
+        omega (arith, ints, push_flip rules flux (F South) (facing South), push_flip rules flux (F North) (facing North), carried_counter rules flux (F East), carried_counter rules flux (F West))
 
     east_thrust_rows : east_thrust rules (turned_cell SouthNorth cell) (turned_faces SouthNorth F) ≡ east_thrust rules cell F
     east_thrust_rows = omega (arith, ints, carried_flip rules flux (F South) (facing South), carried_flip rules flux (F North) (facing North))
@@ -158,9 +147,9 @@ module _ (rules : Rules) (flux : LawfulFlux rules.water rules.push) where
       east_rows = rw east_thrust_rows
 
       pub brim_turned : (τ : Turn) → brim_after rules (turned_cell τ cell) (turned_faces τ F) k ≡ brim_after rules cell F k
-      brim_turned EastWest = (λ i. past_brim (depth_turned EastWest i) (east_columns i) (north_columns i)) ∙ brim_neg_east (depth_after rules cell F k) (raw_east rules cell F k) (raw_north rules cell F k)
-      brim_turned SouthNorth = (λ i. past_brim (depth_turned SouthNorth i) (east_rows i) (north_rows i)) ∙ brim_neg_north (depth_after rules cell F k) (raw_east rules cell F k) (raw_north rules cell F k)
-      brim_turned RowsColumns = (λ i. past_brim (depth_turned RowsColumns i) (raw_north rules cell F k) (raw_east rules cell F k)) ∙ brim_swap (depth_after rules cell F k) (raw_east rules cell F k) (raw_north rules cell F k)
+      brim_turned EastWest = (λ i. past_brim (depth_turned EastWest i) (east_columns i) (north_columns i)) ∙ brim_neg_east _ _ _
+      brim_turned SouthNorth = (λ i. past_brim (depth_turned SouthNorth i) (east_rows i) (north_rows i)) ∙ brim_neg_north _ _ _
+      brim_turned RowsColumns = (λ i. past_brim (depth_turned RowsColumns i) (raw_north rules cell F k) (raw_east rules cell F k)) ∙ brim_swap _ _ _
 
       -- ---- friction
 

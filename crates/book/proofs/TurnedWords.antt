@@ -1,19 +1,19 @@
 -- Accounts, cells by themselves, places and numbers of sides, turned.
-use Rattle.std.proofs.Common.{◌≡◌, ℕ, ◌-◌, ◌*◌, ◌<◌, min, Bool, true, false, cond, ◌||◌, ltb, leb, ℤ, pos, ◌*ℤ◌, neg_ℤ, sym, refl, ◌∙◌, inl, inr, mul_comm, arith}
-use Rattle.std.proofs.lemmas.Bool.{lt-leb, le-ltb, leb-false, cases_lt, or_parts}
+use Rattle.std.proofs.Common.{◌≡◌, ℕ, ◌-◌, ◌*◌, ◌<◌, min, false, ◌||◌, ltb, leb, ℤ, pos, ◌*ℤ◌, neg_ℤ, refl, mul_comm, arith}
+use Rattle.std.proofs.lemmas.Bool.{leb-false, or_parts}
+use Rattle.std.proofs.lemmas.Bool.Decides.{nat_tests}
 use Rattle.book.specs.declared.cell.Cell.{Cell}
 use Rattle.book.specs.declared.account.Account.{Account}
 use Rattle.book.specs.declared.turn.Turn.{Turn}
 use Rattle.book.specs.declared.turn.Turn.TheVariants.{EastWest, SouthNorth, RowsColumns}
 use Rattle.book.specs.Ranges.{outside, size_amiss}
 use Rattle.book.specs.Numbers.{thinned, velocity}
-use Rattle.book.specs.Sheets.{Table, side_number, off_sheet}
+use Rattle.book.specs.Sheets.{Table, off_sheet}
 use Rattle.book.specs.Accounts.{full_passed, full, poured_only, rain_more, soak_more}
 use Rattle.book.specs.Calls.{fresh, at_rest, rained, soaked, hand_of}
 use Rattle.book.specs.Turns.{mirrored, turned_rows, turned_columns, turned_hand, turned_cell, turned_table, turned_account, turned_number}
 use Rattle.rules.specs.Ints.{mul_neg}
 use Rattle.book.proofs.Numbers.{velocity_neg, thinned_neg}
-use Rattle.book.proofs.Sums.{mirrored_in}
 use Rattle.std.proofs.Math.Bool.{or_comm}
 use Rattle.book.proofs.Neighbours.{hand_there, number_below}
 use Rattle.book.proofs.TurnedTables.{sent}
@@ -74,11 +74,7 @@ product_turned RowsColumns rows columns = mul_comm columns rows
 product_turned τ rows columns = refl
 
 leb_mirrored : (n k : ℕ) → leb n (mirrored n k) ≡ leb n k
-leb_mirrored n k =
-    elim (cases_lt k n) [
-      | inl h ↦ lt-leb n (mirrored n k) (omega (arith, mirrored_in n k h)) ∙ sym (lt-leb n k h)
-      | inr h ↦ rw le-ltb
-    ]
+leb_mirrored n k = grind (arith, nat_tests)
 
 pub off_turned : (τ : Turn) (t : Table) (r c : ℕ) → off_sheet (turned_table τ t) (sent τ t r c).row (sent τ t r c).column ≡ off_sheet t r c
 off_turned EastWest t r c = rw (leb_mirrored t.columns c)
@@ -93,11 +89,7 @@ on_column t r c e = leb-false t.columns c (or_parts (leb t.rows r) (leb t.column
 
 -- a number that names no hand stays one, and the others name the turned hand
 pub number_turned : (τ : Turn) (n : ℕ) → ltb 3 (turned_number τ n) ≡ ltb 3 n
-number_turned τ n = by (ltb 3 n) refl
-  where
-    by : (b : Bool) → ltb 3 n ≡ b → ltb 3 (cond b n (side_number (turned_hand τ (hand_of n)))) ≡ b
-    by true e = e
-    by false e = le-ltb 3 (side_number (turned_hand τ (hand_of n))) (omega (arith, number_below (turned_hand τ (hand_of n))))
+number_turned τ n = grind (arith, nat_tests, number_below (turned_hand τ (hand_of n)))
 
 pub hand_turned : (τ : Turn) (n : ℕ) → ltb 3 n ≡ false → hand_of (turned_number τ n) ≡ turned_hand τ (hand_of n)
 hand_turned τ n e = rw (e, hand_there)
