@@ -1,5 +1,5 @@
 -- In a sound table both sides of every face are in the ranges in which a flux rule answers.
-use Rattle.std.proofs.Common.{◌≡◌, ℕ, zero, suc, ◌<◌, ◌≤◌, ℤ, pos, ◌+ℤ◌, ◌-ℤ◌, nat_abs, ◌≤ℤ◌, Some, None, Option, sym, refl, subst, zero-le, arith}
+use Rattle.std.proofs.Common.{◌≡◌, ℕ, zero, suc, ◌<◌, ◌≤◌, ℤ, pos, ◌+ℤ◌, ◌-ℤ◌, nat_abs, ◌≤ℤ◌, Some, None, Option, refl, zero-le, arith}
 use Rattle.std.proofs.lemmas.Int.{ints}
 use Rattle.book.specs.declared.cell.Cell.{Cell}
 use Rattle.book.specs.declared.side.Hand.{Hand}
@@ -9,7 +9,7 @@ use Rattle.book.specs.declared.side.Side.TheVariants.{Wall, Open, Held, Fed}
 use Rattle.rules.specs.Side.{Facing}
 use Rattle.book.specs.Ranges.{max_depth, max_velocity}
 use Rattle.book.specs.Numbers.{greater, where_wet}
-use Rattle.book.specs.Faces.{Column, column, ghost, inward, above, meet, face_of, own_depth, held_depth}
+use Rattle.book.specs.Faces.{Column, column, ghost, inward, above, meet, face_of, own_depth}
 use Rattle.book.specs.Sheets.{Table, Place, cell_at, side_at, neighbour, seen, beyond, face}
 use Rattle.book.proofs.Sound.{Ranged, Sound, GhostKept, FacingBoth}
 use Rattle.book.proofs.Numbers.{positive_le, greater_left, greater_right}
@@ -28,15 +28,11 @@ wet_slow : (d : ℕ) (v : ℤ) → nat_abs v ≤ max_velocity → nat_abs (where
 wet_slow zero v h = zero-le
 wet_slow (suc d) v h = h
 
-wet_dry : (d : ℕ) (v : ℤ) → d ≡ 0 → where_wet d v ≡ pos 0
-wet_dry zero v h = refl
-wet_dry (suc d) v h = absurd (omega arith)
-
 side_facing : (b : ℤ) (k : Column) → k.bed ≤ℤ b → Good k → Facing (above b k).depth (above b k).normal
 side_facing b k h g = record {
-  shallow = let e = side_below b k h in omega (arith, g.shallow);
+  shallow = omega (arith, side_below b k h, g.shallow);
   slow = wet_slow (above b k).depth k.normal g.slow;
-  dry = wet_dry (above b k).depth k.normal;
+  dry = λ e. rw e;
 }
 
 meet_facing : (l r : Column) → Good l → Good r → FacingBoth (meet l r)
@@ -66,14 +62,10 @@ inward_abs West b = omega (arith, ints)
 inward_abs hand b = omega (arith, ints)
 
 ghost_good : (s : Side) (hand : Hand) (k : Cell) → Ranged k → GhostKept s k → Good (ghost s hand (column hand k))
-ghost_good Wall hand k h b =
-    let g = column_good hand k h in
-    record { shallow = g.shallow; slow = omega (arith, ints, g.slow) }
+ghost_good Wall hand k h b = let g = column_good hand k h in record { shallow = g.shallow; slow = omega (arith, ints, g.slow) }
 ghost_good Open hand k h b = column_good hand k h
-ghost_good (Held a) hand k h b =
-    let g = column_good hand k h in
-    record { shallow = subst (λ z. held_depth a z ≤ max_depth) (sym (column_bed hand k)) b; slow = g.slow }
-ghost_good (Fed a v) hand k h b = record { shallow = b.1; slow = subst (λ n. n ≤ max_velocity) (sym (inward_abs hand v)) b.2 }
+ghost_good (Held a) hand k h b = record { shallow = rw column_bed b; slow = (column_good hand k h).slow }
+ghost_good (Fed a v) hand k h b = record { shallow = b.1; slow = omega (arith, inward_abs hand v, b.2) }
 
 -- ---- faces of a table
 

@@ -1,6 +1,6 @@
 -- Hands and places: the number of a hand, the places along a side, and what lies to each hand of a place.
-use Rattle.std.proofs.Common.{◌≡◌, ℕ, zero, suc, ◌+◌, ◌-◌, ◌<◌, ◌≤◌, ltb, Some, None, Option, refl, subst, arith}
-use Rattle.std.proofs.lemmas.Bool.{ltb-true, ltb-false, lt-ltb, le-ltb, or_parts, cond_both}
+use Rattle.std.proofs.Common.{⊎_elim, ◌≡◌, ℕ, zero, suc, ◌+◌, ◌-◌, ◌<◌, ◌≤◌, Some, None, Option, refl, arith}
+use Rattle.std.proofs.lemmas.Bool.{cases_lt, lt-ltb, le-ltb, or_parts}
 use Rattle.std.proofs.lemmas.Bool.Decides.{nat_tests}
 use Rattle.book.specs.declared.side.Hand.{Hand}
 use Rattle.book.specs.declared.side.Hand.TheVariants.{West, East, South, North}
@@ -72,16 +72,10 @@ pub stands : (t : Table) → Sound t → (r c : ℕ) → r < t.rows → c < t.co
 stands t sound r zero h k West = sound.ghosts West r h
 stands t sound r (suc c) h k West = (h, omega arith)
 stands t sound r c h k East =
-    cond_both (ltb (c + 1) t.columns) _ _ (Stands t r c East) (λ e. (h, ltb-true (c + 1) t.columns e))
-    (λ e.
-    let l = ltb-false (c + 1) t.columns e in
-    let last : t.columns - 1 ≡ c = omega arith in
-    subst (λ x. GhostKept (side_at t East) (cell_at t r x)) last (sound.ghosts East r h))
+    ⊎_elim (λ (l : c + 1 < t.columns). rw lt-ltb (h, l))
+    (λ (l : t.columns ≤ c + 1). let last : t.columns - 1 ≡ c = omega arith in rw le-ltb (rw last at (sound.ghosts East r h))) (cases_lt (c + 1) t.columns)
 stands t sound zero c h k South = sound.ghosts South c k
 stands t sound (suc r) c h k South = (omega arith, k)
 stands t sound r c h k North =
-    cond_both (ltb (r + 1) t.rows) _ _ (Stands t r c North) (λ e. (ltb-true (r + 1) t.rows e, k))
-    (λ e.
-    let l = ltb-false (r + 1) t.rows e in
-    let last : t.rows - 1 ≡ r = omega arith in
-    subst (λ x. GhostKept (side_at t North) (cell_at t x c)) last (sound.ghosts North c k))
+    ⊎_elim (λ (l : r + 1 < t.rows). rw lt-ltb (l, k))
+    (λ (l : t.rows ≤ r + 1). let last : t.rows - 1 ≡ r = omega arith in rw le-ltb (rw last at (sound.ghosts North c k))) (cases_lt (r + 1) t.rows)

@@ -1,5 +1,5 @@
 -- A face of the turned sheet is the face that comes there, with its two sides exchanged, with the velocity along it turned about, or as it was.
-use Rattle.std.proofs.Common.{◌≡◌, ℕ, zero, suc, ◌+◌, ◌<◌, ℤ, pos, ◌+ℤ◌, ◌-ℤ◌, neg_ℤ, Some, None, sym, refl, ap, ◌∙◌, ap₂, inl, inr, arith}
+use Rattle.std.proofs.Common.{◌≡◌, ℕ, zero, suc, ◌+◌, ◌<◌, neg_ℤ, Some, None, refl, inl, inr, arith}
 use lib.IntN.{neg_ℤ-neg_ℤ}
 use Rattle.std.proofs.lemmas.Bool.{cases_lt}
 use Rattle.book.specs.declared.cell.Cell.{Cell}
@@ -9,9 +9,8 @@ use Rattle.book.specs.declared.side.Side.{Side}
 use Rattle.book.specs.declared.side.Side.TheVariants.{Fed}
 use Rattle.book.specs.declared.turn.Turn.{Turn}
 use Rattle.book.specs.declared.turn.Turn.TheVariants.{EastWest, SouthNorth, RowsColumns}
-use Rattle.book.specs.Numbers.{positive, greater, where_wet}
-use Rattle.book.specs.Faces.{Column, FaceSide, Face, column, ghost, above, meet, face_of}
-use Rattle.book.specs.Sheets.{Table, Place, cell_at, side_at, neighbour, seen, beyond, face}
+use Rattle.book.specs.Faces.{Column, FaceSide, Face, column, ghost, face_of}
+use Rattle.book.specs.Sheets.{Table, Place, cell_at, side_at, neighbour, beyond, face}
 use Rattle.book.specs.Turns.{mirrored, turned_rows, turned_columns, turned_hand, turned_cell, turned_table}
 use Rattle.book.proofs.Numbers.{velocity_neg, where_wet_neg, greater_swap}
 use Rattle.book.proofs.Sums.{came_from, mirrored_in, mirrored_below}
@@ -76,35 +75,14 @@ ghost_turned RowsColumns South (Fed a b) k = refl
 ghost_turned RowsColumns North (Fed a b) k = refl
 ghost_turned τ hand s k = refl
 
-side_flip : (b : ℤ) (k : Column) → above b (flip_column k) ≡ flip_side (above b k)
-side_flip b k =
-    let d : ℕ = positive ((pos k.depth +ℤ k.bed) -ℤ b) in
-    ap (λ v. record { depth = d; normal = v; along = where_wet d k.along }) (where_wet_neg d k.normal)
-
-side_counter : (b : ℤ) (k : Column) → above b (counter_column k) ≡ counter_side (above b k)
-side_counter b k =
-    let d : ℕ = positive ((pos k.depth +ℤ k.bed) -ℤ b) in
-    ap (λ v. record { depth = d; normal = where_wet d k.normal; along = v }) (where_wet_neg d k.along)
-
-meet_flip : (a b : Column) → meet (flip_column b) (flip_column a) ≡ flip (meet a b)
-meet_flip a b =
-    ap₂ (λ x y. record { left = x; right = y }) (side_flip (greater b.bed a.bed) b) (side_flip (greater b.bed a.bed) a)
-    ∙ ap (λ g. record { left = flip_side (above g b); right = flip_side (above g a) }) (greater_swap b.bed a.bed)
-
-meet_counter : (a b : Column) → meet (counter_column a) (counter_column b) ≡ counter (meet a b)
-meet_counter a b = ap₂ (λ x y. record { left = x; right = y }) (side_counter (greater a.bed b.bed) a) (side_counter (greater a.bed b.bed) b)
-
 face_of_turned : (τ : Turn) (hand : Hand) (a b : Column) → face_of hand (turned_column τ hand a) (turned_column τ hand b) ≡ turned_face τ hand (face_of (turned_hand τ hand) a b)
-face_of_turned EastWest West a b = meet_flip a b
-face_of_turned EastWest East a b = meet_flip b a
-face_of_turned EastWest South a b = meet_counter b a
-face_of_turned EastWest North a b = meet_counter a b
-face_of_turned SouthNorth West a b = meet_counter b a
-face_of_turned SouthNorth East a b = meet_counter a b
-face_of_turned SouthNorth South a b = meet_flip a b
-face_of_turned SouthNorth North a b = meet_flip b a
+face_of_turned EastWest South a b = simp where_wet_neg
+face_of_turned EastWest North a b = simp where_wet_neg
+face_of_turned SouthNorth West a b = simp where_wet_neg
+face_of_turned SouthNorth East a b = simp where_wet_neg
 face_of_turned RowsColumns West a b = refl
-face_of_turned τ hand a b = refl
+face_of_turned RowsColumns hand a b = refl
+face_of_turned τ hand a b = rw (greater_swap a.bed b.bed) (simp where_wet_neg)
 
 -- ---- places
 
@@ -204,21 +182,11 @@ meeting RowsColumns North t r c h k =
 
 module _ (τ : Turn) (t : Table) (r c : ℕ) (h : r < high τ t) (k : c < wide τ t) where
   own_turned : (hand : Hand) → column hand (cell_at (turned_table τ t) r c) ≡ turned_column τ hand (column (turned_hand τ hand) (came_cell τ t r c))
-  own_turned hand = ap (column hand) (cell_turned τ t r c h k) ∙ column_turned τ hand (came_cell τ t r c)
+  own_turned hand = rw (cell_turned τ t r c h k, column_turned)
 
   beyond_met : (hand : Hand) → Meeting τ t r c hand → beyond (turned_table τ t) r c hand ≡ turned_column τ hand (beyond t (came τ t r c).row (came τ t r c).column (turned_hand τ hand))
-  beyond_met hand (at_a_side e e') =
-      ap (seen (turned_table τ t) r c hand) e
-      ∙ (ap₂ (λ s x. ghost s hand x) (side_turned τ t hand) (own_turned hand)
-      ∙ (ghost_turned τ hand (side_at t (turned_hand τ hand)) (column (turned_hand τ hand) (came_cell τ t r c))
-      ∙ ap (λ o. turned_column τ hand (seen t (came τ t r c).row (came τ t r c).column (turned_hand τ hand) o)) (sym e')))
-  beyond_met hand (next_to q i j e e') =
-      ap (seen (turned_table τ t) r c hand) e
-      ∙ (ap (column hand) (cell_turned τ t q.row q.column i j)
-      ∙ (column_turned τ hand (came_cell τ t q.row q.column)
-      ∙ ap (λ o. turned_column τ hand (seen t (came τ t r c).row (came τ t r c).column (turned_hand τ hand) o)) (sym e')))
+  beyond_met hand (at_a_side e e') = rw (e, e', side_turned τ t hand, own_turned hand, ghost_turned)
+  beyond_met hand (next_to q i j e e') = rw (e, e', cell_turned τ t q.row q.column i j, column_turned)
 
   pub face_turned : (hand : Hand) → face (turned_table τ t) r c hand ≡ turned_face τ hand (face t (came τ t r c).row (came τ t r c).column (turned_hand τ hand))
-  face_turned hand =
-      ap₂ (face_of hand) (own_turned hand) (beyond_met hand (meeting τ hand t r c h k))
-      ∙ face_of_turned τ hand (column (turned_hand τ hand) (came_cell τ t r c)) (beyond t (came τ t r c).row (came τ t r c).column (turned_hand τ hand))
+  face_turned hand = rw (own_turned hand, beyond_met hand (meeting τ hand t r c h k), face_of_turned)
