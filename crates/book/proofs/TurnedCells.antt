@@ -1,8 +1,9 @@
 -- One step of one cell: the turned faces make of the turned cell the new cell, turned.
-use Rattle.std.proofs.Common.{◌≡◌, ℕ, ◌+◌, ◌-◌, ◌≤◌, Bool, true, false, cond, ◌||◌, ltb, ℤ, pos, ◌*ℤ◌, neg_ℤ, nat_abs, refl, ap, ◌∙◌, arith}
+use Rattle.std.proofs.Common.{⊎_elim, ◌≡◌, ℕ, ◌≤◌, Bool, true, false, ◌||◌, ltb, ℤ, pos, ◌*ℤ◌, neg_ℤ, nat_abs, refl, ap, ◌∙◌, arith}
 use lib.IntN.{neg_ℤ-neg_ℤ}
 use lib.Signed.{lt_z}
 use Rattle.std.proofs.lemmas.Int.{ints}
+use Rattle.std.proofs.lemmas.Bool.{cases_Bool}
 use Rattle.book.specs.declared.cell.Cell.{Cell}
 use Rattle.book.specs.declared.side.Hand.{Hand}
 use Rattle.book.specs.declared.side.Hand.TheVariants.{West, East, South, North}
@@ -25,27 +26,17 @@ use Rattle.book.proofs.TurnedFaces.{flip, counter, turned_face}
 
 -- ---- faces
 
-pace_exchanged : (dl : ℕ) (nl : ℤ) (dr : ℕ) (nr : ℤ) → face_pace dr (neg_ℤ nr) dl (neg_ℤ nl) ≡ face_pace dl nl dr nr
+pace_flip : (f : Face) → pace (flip f) ≡ pace f
 unfolding face_pace pace_of
-pace_exchanged dl nl dr nr = omega (arith, ints)
+pace_flip f = omega (arith, ints)
 
 pub pace_turned : (τ : Turn) (hand : Hand) (f : Face) → pace (turned_face τ hand f) ≡ pace f
-pace_turned τ hand f = go τ hand
-  where
-    other : pace (flip f) ≡ pace f
-    other = pace_exchanged f.left.depth f.left.normal f.right.depth f.right.normal
-
-    go : (τ : Turn) (hand : Hand) → pace (turned_face τ hand f) ≡ pace f
-    go EastWest West = other
-    go EastWest East = other
-    go SouthNorth South = other
-    go SouthNorth North = other
-    go RowsColumns West = refl
-    go τ hand = refl
-
-cond_neg : (b : Bool) (x y : ℤ) → cond b (neg_ℤ x) (neg_ℤ y) ≡ neg_ℤ (cond b x y)
-cond_neg true x y = refl
-cond_neg false x y = refl
+pace_turned EastWest West f = pace_flip f
+pace_turned EastWest East f = pace_flip f
+pace_turned SouthNorth South f = pace_flip f
+pace_turned SouthNorth North f = pace_flip f
+pace_turned RowsColumns West f = refl
+pace_turned τ hand f = refl
 
 module _ (rules : Rules) (flux : LawfulFlux rules.water rules.push) where
   water_flip : (f : Face) → FacingBoth f → water rules (flip f) ≡ neg_ℤ (water rules f)
@@ -55,12 +46,10 @@ module _ (rules : Rules) (flux : LawfulFlux rules.water rules.push) where
   push_flip f h = flux.exchanged_push f.left.depth f.left.normal f.right.depth f.right.normal h.left h.right
 
   carried_flip : (f : Face) → FacingBoth f → carried rules (flip f) ≡ neg_ℤ (carried rules f)
-  carried_flip f h =
-      rw (water_flip f h) (carried_swap (water rules f) f.left.along f.right.along)
+  carried_flip f h = rw (water_flip f h) (carried_swap (water rules f) f.left.along f.right.along)
 
   carried_counter : (f : Face) → carried rules (counter f) ≡ neg_ℤ (carried rules f)
-  carried_counter f =
-      rw (cond_neg (lt_z (pos 0) (water rules f)) f.left.along f.right.along) (mul_neg (pos 20 *ℤ water rules f) _)
+  carried_counter f = ⊎_elim (λ e. rw e (mul_neg (pos 20 *ℤ water rules f) _)) (λ e. rw e (mul_neg (pos 20 *ℤ water rules f) _)) (cases_Bool (lt_z (pos 0) (water rules f)))
 
   trunc_flip : (K : ℕ) (f : Face) → FacingBoth f → trunc (water rules (flip f)) K ≡ neg_ℤ (trunc (water rules f) K)
   trunc_flip K f h = rw (water_flip f h, quot_neg)
@@ -130,9 +119,13 @@ module _ (rules : Rules) (flux : LawfulFlux rules.water rules.push) where
 
     module _ (k : ℕ) where
       depth_turned : (τ : Turn) → depth_after rules (turned_cell τ cell) (turned_faces τ F) k ≡ depth_after rules cell F k
-      depth_turned τ = λ i.
-          (depth_kept τ cell i + all_turned τ (λ hand. takes rules k hand (turned_faces τ F hand)) (λ hand. takes rules k hand (F hand)) (λ hand. takes_turned τ hand k (F (turned_hand τ hand)) (facing (turned_hand τ hand))) i)
-          - all_turned τ (λ hand. gives rules k hand (turned_faces τ F hand)) (λ hand. gives rules k hand (F hand)) (λ hand. gives_turned τ hand k (F (turned_hand τ hand)) (facing (turned_hand τ hand))) i
+      depth_turned τ =
+          omega (
+            arith,
+            depth_kept τ cell,
+            all_turned τ _ (λ hand. takes rules k hand (F hand)) (λ hand. takes_turned τ hand k (F (turned_hand τ hand)) (facing (turned_hand τ hand))),
+            all_turned τ _ (λ hand. gives rules k hand (F hand)) (λ hand. gives_turned τ hand k (F (turned_hand τ hand)) (facing (turned_hand τ hand))),
+          )
 
       east_columns : raw_east rules (turned_cell EastWest cell) (turned_faces EastWest F) k ≡ neg_ℤ (raw_east rules cell F k)
       east_columns = rw (east_thrust_columns, share_neg) (omega (arith, ints))
@@ -164,11 +157,6 @@ module _ (rules : Rules) (flux : LawfulFlux rules.water rules.push) where
         reversed q slow = thinned_neg (depth_after rules cell F k) _ _ (λ deep. friction.reversed q (speed cell) _ rate (slowing cell ranged rate low high _ deep (below deep).shallow q (slow deep)))
 
         pub new_turned : (τ : Turn) → cell_after rules (turned_cell τ cell) (turned_faces τ F) k rate ≡ turned_cell τ (cell_after rules cell F k rate)
-        new_turned EastWest =
-            let east = (λ i. flow (depth_turned EastWest i) (east_columns i) (speed_turned EastWest cell i)) ∙ reversed (raw_east rules cell F k) (λ deep. (below deep).slow_east) in
-            λ i. record { laid = cell.laid; bed = cell.bed; depth = depth_turned EastWest i; east = east i; north = flow (depth_turned EastWest i) (north_columns i) (speed_turned EastWest cell i) }
-        new_turned SouthNorth =
-            let north = (λ i. flow (depth_turned SouthNorth i) (north_rows i) (speed_turned SouthNorth cell i)) ∙ reversed (raw_north rules cell F k) (λ deep. (below deep).slow_north) in
-            λ i. record { laid = cell.laid; bed = cell.bed; depth = depth_turned SouthNorth i; east = flow (depth_turned SouthNorth i) (east_rows i) (speed_turned SouthNorth cell i); north = north i }
-        new_turned RowsColumns =
-            λ i. record { laid = cell.laid; bed = cell.bed; depth = depth_turned RowsColumns i; east = flow (depth_turned RowsColumns i) (raw_north rules cell F k) (speed_turned RowsColumns cell i); north = flow (depth_turned RowsColumns i) (raw_east rules cell F k) (speed_turned RowsColumns cell i) }
+        new_turned EastWest = rw (depth_turned EastWest, east_columns, north_columns, speed_turned EastWest, reversed (raw_east rules cell F k) (λ deep. (below deep).slow_east))
+        new_turned SouthNorth = rw (depth_turned SouthNorth, north_rows, east_rows, speed_turned SouthNorth, reversed (raw_north rules cell F k) (λ deep. (below deep).slow_north))
+        new_turned RowsColumns = rw (depth_turned RowsColumns, speed_turned RowsColumns)
