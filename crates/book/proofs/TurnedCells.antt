@@ -1,5 +1,5 @@
 -- One step of one cell: the turned faces make of the turned cell the new cell, turned.
-use Rattle.std.proofs.Common.{⊎_elim, ◌≡◌, ℕ, ◌≤◌, Bool, true, false, ◌||◌, ltb, ℤ, pos, ◌*ℤ◌, neg_ℤ, nat_abs, refl, ap, ◌∙◌, arith}
+use Rattle.std.proofs.Common.{⊎_elim, ◌≡◌, ℕ, ◌≤◌, Bool, false, ◌||◌, ltb, ℤ, pos, ◌*ℤ◌, neg_ℤ, nat_abs, refl, ap, arith}
 use lib.IntN.{neg_ℤ-neg_ℤ}
 use lib.Signed.{lt_z}
 use Rattle.std.proofs.lemmas.Int.{ints}
@@ -20,7 +20,7 @@ use Rattle.book.specs.Turns.{turned_hand, turned_cell}
 use Rattle.book.proofs.Sound.{Ranged, FacingBoth}
 use Rattle.rules.specs.Ints.{mul_neg, quot_neg}
 use Rattle.book.proofs.Numbers.{share_neg, velocity_neg, speed_neg, thinned_neg, friction_speed_neg_east, friction_speed_neg_north, friction_speed_swap, carried_swap}
-use Rattle.std.proofs.Math.Bool.{or_comm}
+use Rattle.std.proofs.Math.Bool.{or_assoc, or_comm}
 use Rattle.book.proofs.Steps.{BelowBrim, below_brim, slowing}
 use Rattle.book.proofs.TurnedFaces.{flip, counter, turned_face}
 
@@ -78,18 +78,11 @@ speed_turned EastWest k = rw (velocity_neg, friction_speed_neg_east)
 speed_turned SouthNorth k = rw (velocity_neg, friction_speed_neg_north)
 speed_turned RowsColumns k = friction_speed_swap (velocity k.east k.depth) (velocity k.north k.depth)
 
-brim_neg_east : (h : ℕ) (e n : ℤ) → past_brim h (neg_ℤ e) n ≡ past_brim h e n
-brim_neg_east h e n = rw (speed_neg e h)
-
-brim_neg_north : (h : ℕ) (e n : ℤ) → past_brim h e (neg_ℤ n) ≡ past_brim h e n
-brim_neg_north h e n = rw (speed_neg n h)
-
 or_last : (a b c : Bool) → ((a || b) || c) ≡ ((a || c) || b)
-or_last true b c = refl
-or_last false b c = or_comm b c
+or_last a b c = cc (or_assoc a b c, or_comm b c, or_assoc a c b)
 
 brim_swap : (h : ℕ) (e n : ℤ) → past_brim h n e ≡ past_brim h e n
-brim_swap h e n = rw (or_last (ltb max_depth h) (ltb max_velocity (nat_abs (velocity n h))) (ltb max_velocity (nat_abs (velocity e h))))
+brim_swap h e n = rw (or_last (ltb max_depth h) (ltb max_velocity (nat_abs (velocity n h))))
 
 -- the turned faces, seen from the turned cell
 abbrev pub turned_faces : Turn → (Hand → Face) → Hand → Face
@@ -140,9 +133,9 @@ module _ (rules : Rules) (flux : LawfulFlux rules.water rules.push) where
       east_rows = rw east_thrust_rows
 
       pub brim_turned : (τ : Turn) → brim_after rules (turned_cell τ cell) (turned_faces τ F) k ≡ brim_after rules cell F k
-      brim_turned EastWest = (λ i. past_brim (depth_turned EastWest i) (east_columns i) (north_columns i)) ∙ brim_neg_east _ _ _
-      brim_turned SouthNorth = (λ i. past_brim (depth_turned SouthNorth i) (east_rows i) (north_rows i)) ∙ brim_neg_north _ _ _
-      brim_turned RowsColumns = (λ i. past_brim (depth_turned RowsColumns i) (raw_north rules cell F k) (raw_east rules cell F k)) ∙ brim_swap _ _ _
+      brim_turned EastWest = rw (depth_turned EastWest, east_columns, north_columns, speed_neg)
+      brim_turned SouthNorth = rw (depth_turned SouthNorth, east_rows, north_rows, speed_neg)
+      brim_turned RowsColumns = rw (depth_turned RowsColumns) (brim_swap _ _ _)
 
       -- ---- friction
 

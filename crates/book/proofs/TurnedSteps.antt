@@ -11,7 +11,7 @@ use Rattle.book.specs.declared.turn.Turn.{Turn}
 use Rattle.book.specs.declared.turn.Turn.TheVariants.{EastWest, SouthNorth, RowsColumns}
 use Rattle.book.specs.Ranges.{max_rate}
 use Rattle.book.specs.Faces.{pace}
-use Rattle.book.specs.Step.{Rules, gives, takes, brim_after, cell_after}
+use Rattle.book.specs.Step.{Rules, brim_after, cell_after}
 use Rattle.book.specs.Sheets.{Table, span, face, leaves, arrives, new_cell, over_brim, grid, sum_below, some_hand, too_slow, brim_passed}
 use Rattle.book.specs.Accounts.{passed_by, account_after_step}
 use Rattle.book.specs.Calls.{slowest_rate, least_rate}
@@ -31,7 +31,7 @@ module _ (τ : Turn) (t : Table) where
       some_turned τ t.rows t.columns _ (λ r c. some_hand (λ hand. ltb (span t rate) (4 * pace (face t r c hand))))
       (λ r c h k.
       some_hand_turned τ (λ hand. ltb (span t rate) (4 * pace (face (turned_table τ t) r c hand))) (λ hand. ltb (span t rate) (4 * pace (face t (came τ t r c).row (came τ t r c).column hand)))
-      (λ hand. ap (λ n. ltb (span t rate) (4 * n)) (ap pace (face_turned τ t r c h k hand) ∙ pace_turned τ hand (face t (came τ t r c).row (came τ t r c).column (turned_hand τ hand)))))
+      (λ hand. rw (face_turned τ t r c h k hand, pace_turned)))
 
   pub slowest_turned : slowest_rate (turned_table τ t) ≡ slowest_rate t
   slowest_turned = ap (λ slow. least_rate slow 1 max_rate) (fun_ext too_slow_turned)
@@ -57,10 +57,10 @@ module _ (rules : Rules) (flux : LawfulFlux rules.water rules.push) (τ : Turn) 
         (sound.ranged (came τ t r c).row (came τ t r c).column (came_row τ t r c h k) (came_column τ t r c h k)) low top brim τ
 
     leaves_here : (rate : ℕ) (hand : Hand) → leaves rules (turned_table τ t) rate r c hand ≡ leaves rules t rate (came τ t r c).row (came τ t r c).column (turned_hand τ hand)
-    leaves_here rate hand = ap (gives rules (span t rate) hand) (face_turned τ t r c h k hand) ∙ gives_turned rules flux τ hand (span t rate) _ (facing (turned_hand τ hand))
+    leaves_here rate hand = rw (face_turned τ t r c h k hand) (gives_turned rules flux τ hand (span t rate) _ (facing (turned_hand τ hand)))
 
     arrives_here : (rate : ℕ) (hand : Hand) → arrives rules (turned_table τ t) rate r c hand ≡ arrives rules t rate (came τ t r c).row (came τ t r c).column (turned_hand τ hand)
-    arrives_here rate hand = ap (takes rules (span t rate) hand) (face_turned τ t r c h k hand) ∙ takes_turned rules flux τ hand (span t rate) _ (facing (turned_hand τ hand))
+    arrives_here rate hand = rw (face_turned τ t r c h k hand) (takes_turned rules flux τ hand (span t rate) _ (facing (turned_hand τ hand)))
 
   pub brim_passed_turned : (rate : ℕ) → brim_passed rules (turned_table τ t) rate ≡ brim_passed rules t rate
   brim_passed_turned rate = some_turned τ t.rows t.columns (over_brim rules (turned_table τ t) rate) (over_brim rules t rate) (λ r c h k. brim_here r c h k rate)
