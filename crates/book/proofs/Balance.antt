@@ -1,6 +1,7 @@
 -- The account adds up: all water that stands, soaked away or left is what was poured, rained or came in.
-use Rattle.std.proofs.Common.{◌≡◌, ℕ, suc, ◌+◌, ◌<◌, min, false, List, map, refl, ap, subst, ⊎_elim, add-one, arith}
+use Rattle.std.proofs.Common.{◌≡◌, ℕ, suc, ◌+◌, ◌<◌, min, false, List, map, refl, subst, ⊎_elim, add-one, arith}
 use lib.IntN.{neg_ℤ-neg_ℤ}
+use Rattle.std.proofs.lemmas.Bool.{lt-ltb}
 use Rattle.book.specs.declared.cell.Cell.{Cell}
 use Rattle.book.specs.declared.side.Hand.TheVariants.{West, East, South, North}
 use Rattle.book.specs.declared.account.Account.{Account}
@@ -17,7 +18,7 @@ use Rattle.book.proofs.Sound.{Sound, SoundAt, SoundBook}
 use Rattle.book.specs.Laws.{Balanced, Opened}
 use Rattle.book.proofs.Sums.{sheet_balance, total_same, total_add, total_even}
 use Rattle.book.proofs.Grids.{map_at}
-use Rattle.book.proofs.Neighbours.{east_some, north_some, rows_some, columns_some}
+use Rattle.book.proofs.Neighbours.{rows_some, columns_some}
 use Rattle.book.proofs.Judged.{NoneThere, after_book}
 use Rattle.book.proofs.Steps.{not_overdrawn, stepped_exact}
 use Rattle.book.proofs.Soundness.{sound_kept}
@@ -25,10 +26,10 @@ use Rattle.book.proofs.Soundness.{sound_kept}
 -- ---- a face seen from both its cells
 
 east_face : (t : Table) (r c : ℕ) → suc c < t.columns → face t r (suc c) West ≡ face t r c East
-east_face t r c h = rw (east_some t r c (suc c) h (add-one c))
+east_face t r c h = rw (add-one c, lt-ltb)
 
 north_face : (t : Table) (r c : ℕ) → suc r < t.rows → face t (suc r) c South ≡ face t r c North
-north_face t r c h = rw (north_some t r c (suc r) h (add-one r))
+north_face t r c h = rw (add-one r, lt-ltb)
 
 -- what one of them takes there the other gives; west and east, or south and north
 module _ (rules : Rules) (k : ℕ) (f g : Face) (e : f ≡ g) where
@@ -52,7 +53,7 @@ BalancedBook b = BalancedAt b.stage b.table b.account
 standing_map : (t : Table) → Sound t → (f : Cell → Cell) → standing (with_cells t (map f t.cells)) ≡ sum_places t (λ r c. (f (cell_at t r c)).depth)
 standing_map t sound f =
     total_same t.rows t.columns (λ r c. (cell_at (with_cells t (map f t.cells)) r c).depth) (λ r c. (f (cell_at t r c)).depth)
-    (λ r c p q. ap (λ (k : Cell). k.depth) (map_at t.rows t.columns t.cells f r c sound.sized p q))
+    (λ r c p q. rw (map_at t.rows t.columns t.cells f r c sound.sized p q))
 
 rain_balanced : (t : Table) → Sound t → (a : Account) (n : ℕ) → BalancedAt serving t a → BalancedAt serving (with_cells t (map (rained n) t.cells)) (rain_more a (rained_on t n))
 rain_balanced t sound a n h = omega (arith, standing_map t sound (rained n), total_add t.rows t.columns (λ r c. (cell_at t r c).depth) (λ r c. n), total_even t.rows t.columns n)

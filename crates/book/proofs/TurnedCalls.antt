@@ -31,15 +31,13 @@ turned_page τ p = record { book = turned_book τ p.book; reply = turned_reply �
 -- each fault alike, where none of those before it is there
 abbrev Alike : List Fault → List Fault → Type 0
 Alike [] [] = Unit {0}
-Alike [] (y ∷ ys) = ⊥
-Alike (x ∷ xs) [] = ⊥
 Alike (x ∷ xs) (y ∷ ys) = (x.there ≡ y.there) × (x.why ≡ y.why) × (y.there ≡ false → Alike xs ys)
+Alike xs ys = ⊥
 
 judged_turned : (τ : Turn) (xs ys : List Fault) (b : Book) (p' p : Page) → Alike xs ys → (NoneThere ys → p' ≡ turned_page τ p) → judged xs (turned_book τ b) p' ≡ turned_page τ (judged ys b p)
 judged_turned τ [] [] b p' p a h = h tt
-judged_turned τ [] (y ∷ ys) b p' p a h = absurd a
-judged_turned τ (x ∷ xs) [] b p' p a h = absurd a
 judged_turned τ (x ∷ xs) (y ∷ ys) b p' p a h = rw (a.0, a.1) (⊎_elim (λ e. rw e) (λ e. rw e (judged_turned τ xs ys b p' p (a.2 e) (λ n. h (e, n)))) (cases_Bool y.there))
+judged_turned τ xs ys b p' p a h = absurd a
 
 -- ---- a call on its sheet
 

@@ -1,7 +1,7 @@
 -- A face of the turned sheet is the face that comes there, with its two sides exchanged, with the velocity along it turned about, or as it was.
-use Rattle.std.proofs.Common.{◌≡◌, ℕ, zero, suc, ◌+◌, ◌<◌, neg_ℤ, Some, None, refl, inl, inr, arith}
+use Rattle.std.proofs.Common.{⊎_elim, ◌≡◌, ℕ, zero, suc, ◌+◌, ◌<◌, ◌≤◌, neg_ℤ, Some, None, refl, arith}
 use lib.IntN.{neg_ℤ-neg_ℤ}
-use Rattle.std.proofs.lemmas.Bool.{cases_lt}
+use Rattle.std.proofs.lemmas.Bool.{cases_lt, lt-ltb, le-ltb}
 use Rattle.book.specs.declared.cell.Cell.{Cell}
 use Rattle.book.specs.declared.side.Hand.{Hand}
 use Rattle.book.specs.declared.side.Hand.TheVariants.{West, East, South, North}
@@ -15,7 +15,6 @@ use Rattle.book.specs.Turns.{mirrored, turned_rows, turned_columns, turned_hand,
 use Rattle.book.proofs.Numbers.{velocity_neg, where_wet_neg, greater_swap}
 use Rattle.book.proofs.Sums.{came_from, mirrored_in, mirrored_below}
 use Rattle.book.proofs.Grids.{grid_at}
-use Rattle.book.proofs.Neighbours.{west_none, west_some, east_none, east_some, south_none, south_some, north_none, north_some}
 
 -- ---- columns and faces, exchanged and turned about
 
@@ -127,56 +126,44 @@ data Meeting (τ : Turn) (t : Table) (r c : ℕ) (hand : Hand) : Type 0 where
       neighbour (turned_table τ t) r c hand ≡ Some q → neighbour t (came τ t r c).row (came τ t r c).column (turned_hand τ hand) ≡ Some (came τ t q.row q.column) → Meeting τ t r c hand
 
 meeting : (τ : Turn) (hand : Hand) (t : Table) (r c : ℕ) → r < high τ t → c < wide τ t → Meeting τ t r c hand
-meeting EastWest West t r zero h k = at_a_side refl (east_none t r (mirrored t.columns 0) (omega (arith, mirrored_in t.columns 0 k)))
+meeting EastWest West t r zero h k = at_a_side refl (rw (le-ltb (mirrored t.columns 0 + 1) t.columns (omega (arith, mirrored_in t.columns 0 k))))
 meeting EastWest West t r (suc c) h k =
     let l : c < t.columns = omega arith in
-    next_to (record { row = r; column = c }) h l refl
-    (east_some t r (mirrored t.columns (suc c)) (mirrored t.columns c) (mirrored_below t.columns c l) (omega (arith, mirrored_in t.columns (suc c) k, mirrored_in t.columns c l)))
+    let e : mirrored t.columns (suc c) + 1 ≡ mirrored t.columns c = omega (arith, mirrored_in t.columns (suc c) k, mirrored_in t.columns c l) in
+    next_to (record { row = r; column = c }) h l refl (rw (e, lt-ltb (mirrored t.columns c) t.columns (mirrored_below t.columns c l)))
 meeting EastWest East t r c h k =
-    elim (cases_lt (c + 1) t.columns) [
-      | inl l ↦ next_to (record { row = r; column = c + 1 }) h l (east_some (turned_table EastWest t) r c (c + 1) l refl)
-          (west_some t r (mirrored t.columns c) (mirrored t.columns (c + 1)) (omega (arith, mirrored_in t.columns c k, mirrored_in t.columns (c + 1) l)))
-      | inr l ↦ at_a_side (east_none (turned_table EastWest t) r c l) (west_none t r (mirrored t.columns c) (omega (arith, mirrored_in t.columns c k)))
-    ]
+    ⊎_elim
+    (λ (l : c + 1 < t.columns).
+    let e : mirrored t.columns c ≡ suc (mirrored t.columns (c + 1)) = omega (arith, mirrored_in t.columns c k, mirrored_in t.columns (c + 1) l) in
+    next_to (record { row = r; column = c + 1 }) h l (rw lt-ltb) (rw e))
+    (λ (l : t.columns ≤ c + 1). let e : mirrored t.columns c ≡ 0 = omega (arith, mirrored_in t.columns c k) in at_a_side (rw le-ltb) (rw e)) (cases_lt (c + 1) t.columns)
 meeting EastWest South t zero c h k = at_a_side refl refl
 meeting EastWest South t (suc r) c h k = next_to (record { row = r; column = c }) (omega arith) k refl refl
 meeting EastWest North t r c h k =
-    elim (cases_lt (r + 1) t.rows) [
-      | inl l ↦ next_to (record { row = r + 1; column = c }) l k (north_some (turned_table EastWest t) r c (r + 1) l refl) (north_some t r (mirrored t.columns c) (r + 1) l refl)
-      | inr l ↦ at_a_side (north_none (turned_table EastWest t) r c l) (north_none t r (mirrored t.columns c) l)
-    ]
+    ⊎_elim (λ (l : r + 1 < t.rows). next_to (record { row = r + 1; column = c }) l k (rw lt-ltb) (rw (lt-ltb (r + 1) t.rows l))) (λ (l : t.rows ≤ r + 1). at_a_side (rw le-ltb) (rw (le-ltb (r + 1) t.rows l))) (cases_lt (r + 1) t.rows)
 meeting SouthNorth West t r zero h k = at_a_side refl refl
 meeting SouthNorth West t r (suc c) h k = next_to (record { row = r; column = c }) h (omega arith) refl refl
 meeting SouthNorth East t r c h k =
-    elim (cases_lt (c + 1) t.columns) [
-      | inl l ↦ next_to (record { row = r; column = c + 1 }) h l (east_some (turned_table SouthNorth t) r c (c + 1) l refl) (east_some t (mirrored t.rows r) c (c + 1) l refl)
-      | inr l ↦ at_a_side (east_none (turned_table SouthNorth t) r c l) (east_none t (mirrored t.rows r) c l)
-    ]
-meeting SouthNorth South t zero c h k = at_a_side refl (north_none t (mirrored t.rows 0) c (omega (arith, mirrored_in t.rows 0 h)))
+    ⊎_elim (λ (l : c + 1 < t.columns). next_to (record { row = r; column = c + 1 }) h l (rw lt-ltb) (rw (lt-ltb (c + 1) t.columns l))) (λ (l : t.columns ≤ c + 1). at_a_side (rw le-ltb) (rw (le-ltb (c + 1) t.columns l))) (cases_lt (c + 1) t.columns)
+meeting SouthNorth South t zero c h k = at_a_side refl (rw (le-ltb (mirrored t.rows 0 + 1) t.rows (omega (arith, mirrored_in t.rows 0 h))))
 meeting SouthNorth South t (suc r) c h k =
     let l : r < t.rows = omega arith in
-    next_to (record { row = r; column = c }) l k refl
-    (north_some t (mirrored t.rows (suc r)) c (mirrored t.rows r) (mirrored_below t.rows r l) (omega (arith, mirrored_in t.rows (suc r) h, mirrored_in t.rows r l)))
+    let e : mirrored t.rows (suc r) + 1 ≡ mirrored t.rows r = omega (arith, mirrored_in t.rows (suc r) h, mirrored_in t.rows r l) in
+    next_to (record { row = r; column = c }) l k refl (rw (e, lt-ltb (mirrored t.rows r) t.rows (mirrored_below t.rows r l)))
 meeting SouthNorth North t r c h k =
-    elim (cases_lt (r + 1) t.rows) [
-      | inl l ↦ next_to (record { row = r + 1; column = c }) l k (north_some (turned_table SouthNorth t) r c (r + 1) l refl)
-          (south_some t (mirrored t.rows r) c (mirrored t.rows (r + 1)) (omega (arith, mirrored_in t.rows r h, mirrored_in t.rows (r + 1) l)))
-      | inr l ↦ at_a_side (north_none (turned_table SouthNorth t) r c l) (south_none t (mirrored t.rows r) c (omega (arith, mirrored_in t.rows r h)))
-    ]
+    ⊎_elim
+    (λ (l : r + 1 < t.rows).
+    let e : mirrored t.rows r ≡ suc (mirrored t.rows (r + 1)) = omega (arith, mirrored_in t.rows r h, mirrored_in t.rows (r + 1) l) in
+    next_to (record { row = r + 1; column = c }) l k (rw lt-ltb) (rw e))
+    (λ (l : t.rows ≤ r + 1). let e : mirrored t.rows r ≡ 0 = omega (arith, mirrored_in t.rows r h) in at_a_side (rw le-ltb) (rw e)) (cases_lt (r + 1) t.rows)
 meeting RowsColumns West t r zero h k = at_a_side refl refl
 meeting RowsColumns West t r (suc c) h k = next_to (record { row = r; column = c }) h (omega arith) refl refl
 meeting RowsColumns East t r c h k =
-    elim (cases_lt (c + 1) t.rows) [
-      | inl l ↦ next_to (record { row = r; column = c + 1 }) h l (east_some (turned_table RowsColumns t) r c (c + 1) l refl) (north_some t c r (c + 1) l refl)
-      | inr l ↦ at_a_side (east_none (turned_table RowsColumns t) r c l) (north_none t c r l)
-    ]
+    ⊎_elim (λ (l : c + 1 < t.rows). next_to (record { row = r; column = c + 1 }) h l (rw lt-ltb) (rw lt-ltb)) (λ (l : t.rows ≤ c + 1). at_a_side (rw le-ltb) (rw le-ltb)) (cases_lt (c + 1) t.rows)
 meeting RowsColumns South t zero c h k = at_a_side refl refl
 meeting RowsColumns South t (suc r) c h k = next_to (record { row = r; column = c }) (omega arith) k refl refl
 meeting RowsColumns North t r c h k =
-    elim (cases_lt (r + 1) t.columns) [
-      | inl l ↦ next_to (record { row = r + 1; column = c }) l k (north_some (turned_table RowsColumns t) r c (r + 1) l refl) (east_some t c r (r + 1) l refl)
-      | inr l ↦ at_a_side (north_none (turned_table RowsColumns t) r c l) (east_none t c r l)
-    ]
+    ⊎_elim (λ (l : r + 1 < t.columns). next_to (record { row = r + 1; column = c }) l k (rw lt-ltb) (rw lt-ltb)) (λ (l : t.columns ≤ r + 1). at_a_side (rw le-ltb) (rw le-ltb)) (cases_lt (r + 1) t.columns)
 
 -- ---- faces
 

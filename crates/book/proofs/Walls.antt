@@ -1,6 +1,7 @@
 -- Nothing passes a wall, and nothing is counted at a side whose faces pass no water.
-use Rattle.std.proofs.Common.{◌≡◌, ℕ, ◌-◌, ◌<◌, ℤ, pos, neg_ℤ, None, sym, refl, ap, ◌∙◌, subst, arith}
+use Rattle.std.proofs.Common.{◌+◌, ◌≡◌, ℕ, ◌-◌, ◌<◌, ℤ, pos, neg_ℤ, None, sym, refl, ap, ◌∙◌, subst, arith}
 use Rattle.std.proofs.lemmas.Int.{ints}
+use Rattle.std.proofs.lemmas.Bool.{le-ltb}
 use Rattle.book.specs.declared.side.Hand.{Hand}
 use Rattle.book.specs.declared.side.Hand.TheVariants.{West, East, South, North}
 use Rattle.book.specs.declared.side.Side.TheVariants.{Wall}
@@ -15,7 +16,7 @@ use Rattle.book.specs.Accounts.{passed_by}
 use Rattle.book.proofs.Sound.{Sound, FacingBoth}
 use Rattle.book.proofs.Numbers.{trunc_none, where_wet_neg}
 use Rattle.book.proofs.Sums.{sum_none}
-use Rattle.book.proofs.Neighbours.{rows_some, columns_some, border_row, border_column, east_none, north_none}
+use Rattle.book.proofs.Neighbours.{border_row, border_column}
 use Rattle.book.proofs.Faces.{faces_sound}
 
 -- ---- faces that pass no water
@@ -50,8 +51,8 @@ thrown_back hand k = where_wet_neg (above (greater k.bed k.bed) k).depth k.norma
 
 -- a cell along a side has no neighbour there
 border_none : (t : Table) → Sound t → (hand : Hand) (k : ℕ) → neighbour t (border_place t.rows t.columns hand k).row (border_place t.rows t.columns hand k).column hand ≡ None
-border_none t sound East k = east_none t k (t.columns - 1) (omega (arith, columns_some t sound))
-border_none t sound North k = north_none t (t.rows - 1) k (omega (arith, rows_some t sound))
+border_none t sound East k = rw (le-ltb (t.columns - 1 + 1) t.columns (omega arith))
+border_none t sound North k = rw (le-ltb (t.rows - 1 + 1) t.rows (omega arith))
 border_none t sound hand k = refl
 
 module _ (rules : Rules) (flux : LawfulFlux rules.water rules.push) where
