@@ -1,18 +1,18 @@
 -- One call: the turned book answers the turned call as the book answers the call, turned.
-use Rattle.std.proofs.Common.{◌≡◌, ℕ, ◌+◌, ◌*◌, ◌<◌, min, Bool, true, false, cond, not, ◌||◌, ltb, List, [], ◌∷◌, set, Some, None, sym, refl, ap, ◌∙◌, subst, ap₂, ⊎_elim}
+use Rattle.std.proofs.Common.{◌≡◌, ℕ, ◌+◌, ◌*◌, ◌<◌, min, true, false, not, ltb, List, [], ◌∷◌, set, sym, refl, ap, ◌∙◌, subst, ⊎_elim}
 use Rattle.std.proofs.lemmas.Bool.{or_parts, cases_Bool}
 use Rattle.book.specs.declared.call.Call.{Call}
 use Rattle.book.specs.declared.call.Call.TheVariants.{Prepare, Lay, Open as Opening, Step, Rain, Soak, ChangeSide, AskCell, AskStanding, AskSlowestRate}
-use Rattle.book.specs.declared.reply.Reply.TheVariants.{Done, CellIs, StandingIs, RateIs}
+use Rattle.book.specs.declared.reply.Reply.TheVariants.{Done, RateIs}
 use Rattle.rules.specs.Flux.{LawfulFlux}
 use Rattle.rules.specs.Friction.{LawfulFriction}
 use Rattle.book.specs.declared.turn.Turn.{Turn}
 use Rattle.book.specs.Ranges.{max_depth, max_rate}
 use Rattle.book.specs.Step.{Rules}
-use Rattle.book.specs.Sheets.{Place, cell_at, side_number, with_cells, with_sides, off_sheet, standing}
-use Rattle.book.specs.Accounts.{full, poured_only, rain_more, soak_more, account_after_step}
-use Rattle.book.specs.Calls.{Book, start, preparing, serving, Page, Fault, unchanged, on_page, soaked_away, fresh, at_rest, rained, soaked, hand_of, side_of, side_amiss, held_over, stage_of, fits, judged, faults, accepted, answer, rained_on}
-use Rattle.book.specs.Turns.{turned_hand, turned_cell, turned_table, turned_account, turned_call, turned_asked, turned_reply, turned_book}
+use Rattle.book.specs.Sheets.{cell_at, side_number, with_cells, with_sides, off_sheet, standing}
+use Rattle.book.specs.Accounts.{full, poured_only, rain_more, soak_more}
+use Rattle.book.specs.Calls.{Book, start, preparing, serving, Page, Fault, unchanged, on_page, soaked_away, fresh, at_rest, rained, soaked, hand_of, side_of, side_amiss, stage_of, fits, judged, faults, accepted, answer, rained_on}
+use Rattle.book.specs.Turns.{turned_hand, turned_table, turned_account, turned_call, turned_reply, turned_book}
 use Rattle.book.proofs.Sound.{SoundAt, SoundBook}
 use Rattle.book.specs.Laws.{OfSize}
 use Rattle.book.proofs.Numbers.{inside}
@@ -46,64 +46,24 @@ module _ (rules : Rules) (flux : LawfulFlux rules.water rules.push) (friction : 
   on_sheet x = turned_call τ b.table.rows b.table.columns x
 
   rain_account : (n : ℕ) → rain_more (turned_account τ b.account) (rained_on (turned_table τ b.table) n) ≡ turned_account τ (rain_more b.account (rained_on b.table n))
-  rain_account n = ap (λ m. rain_more (turned_account τ b.account) (n * m)) (product_turned τ b.table.rows b.table.columns) ∙ rain_turned τ b.account (rained_on b.table n)
+  rain_account n = rw (product_turned τ b.table.rows b.table.columns) (rain_turned τ b.account (rained_on b.table n))
 
   soak_account : (n : ℕ) → soak_more (turned_account τ b.account) (soaked_away (turned_table τ b.table) n) ≡ turned_account τ (soak_more b.account (soaked_away b.table n))
-  soak_account n =
-      ap (soak_more (turned_account τ b.account)) (sum_turned τ b.table.rows b.table.columns (λ r c. min (cell_at (turned_table τ b.table) r c).depth n) (λ r c. min (cell_at b.table r c).depth n) (λ r c h k. ap (λ d. min d n) (depth_came τ b.table r c h k)))
-      ∙ soak_turned τ b.account (soaked_away b.table n)
+  soak_account n = rw (sum_turned τ b.table.rows b.table.columns _ (λ r c. min (cell_at b.table r c).depth n) (λ r c h k. ap (λ d. min d n) (depth_came τ b.table r c h k))) (soak_turned τ b.account (soaked_away b.table n))
 
   faults_turned : (x : Call) → SoundAt (stage_of x) b.table → Alike (faults rules (turned_book τ b) (on_sheet x)) (faults rules b x)
   faults_turned (Prepare rows columns width) s = (size_turned τ rows columns width, refl, λ _. tt)
   faults_turned (Lay row column bed depth) s = (off_turned τ b.table row column, refl, λ _. (refl, refl, λ _. (refl, refl, λ _. tt)))
-  faults_turned Opening s =
-      (some_turned τ b.table.rows b.table.columns (λ r c. not (cell_at (turned_table τ b.table) r c).laid) (λ r c. not (cell_at b.table r c).laid) (λ r c h k. ap not (laid_came τ b.table r c h k)), refl, λ _. tt)
-  faults_turned (Step rate) s = (
-    refl,
-    refl,
-    λ _. (
-      too_slow_turned τ b.table rate,
-      refl,
-      λ _. (
-        brim_passed_turned rules flux τ b.table s rate,
-        refl,
-        λ _.
-            (ap full (step_account rules flux τ b.table s rate b.account) ∙ full_turned τ (account_after_step rules b.table rate b.account), refl, λ _. tt),
-      ),
-    ),
-  )
-  faults_turned (Rain n) s = (
-    refl,
-    refl,
-    λ _. (
-      some_turned τ b.table.rows b.table.columns (λ r c. ltb max_depth ((cell_at (turned_table τ b.table) r c).depth + n)) (λ r c. ltb max_depth ((cell_at b.table r c).depth + n)) (λ r c h k. ap (λ d. ltb max_depth (d + n)) (depth_came τ b.table r c h k)),
-      refl,
-      λ _.
-          (ap full (rain_account n) ∙ full_turned τ (rain_more b.account (rained_on b.table n)), refl, λ _. tt),
-    ),
-  )
-  faults_turned (Soak n) s = (refl, refl, λ _. (ap full (soak_account n) ∙ full_turned τ (soak_more b.account (soaked_away b.table n)), refl, λ _. tt))
-  faults_turned (ChangeSide n kind x y) s = (
-    ap (λ z. z || side_amiss kind x y) (number_turned τ n),
-    refl,
-    λ e. (
-      ap (λ z. held_over (turned_table τ b.table) z (side_of kind x y)) (hand_turned τ n (or_parts (ltb 3 n) (side_amiss kind x y) e).0)
-          ∙ (held_turned τ b.table s (turned_hand τ (hand_of n)) (side_of kind x y) ∙ ap (λ z. held_over b.table z (side_of kind x y)) (hand_twice τ (hand_of n))),
-      refl,
-      λ _. tt,
-    ),
-  )
+  faults_turned Opening s = (some_turned τ b.table.rows b.table.columns _ (λ r c. not (cell_at b.table r c).laid) (λ r c h k. ap not (laid_came τ b.table r c h k)), refl, λ _. tt)
+  faults_turned (Step rate) s = (refl, refl, λ _. (too_slow_turned τ b.table rate, refl, λ _. (brim_passed_turned rules flux τ b.table s rate, refl, λ _. (ap full (step_account rules flux τ b.table s rate b.account) ∙ full_turned τ _, refl, λ _. tt))))
+  faults_turned (Rain n) s =
+      let brim = some_turned τ b.table.rows b.table.columns (λ r c. ltb max_depth ((cell_at (turned_table τ b.table) r c).depth + n)) (λ r c. ltb max_depth ((cell_at b.table r c).depth + n)) (λ r c h k. ap (λ d. ltb max_depth (d + n)) (depth_came τ b.table r c h k)) in
+      (refl, refl, λ _. (brim, refl, λ _. (ap full (rain_account n) ∙ full_turned τ _, refl, λ _. tt)))
+  faults_turned (Soak n) s = (refl, refl, λ _. (ap full (soak_account n) ∙ full_turned τ _, refl, λ _. tt))
+  faults_turned (ChangeSide n kind x y) s =
+      (rw (number_turned τ n), refl, λ e. (rw (hand_turned τ n (or_parts (ltb 3 n) (side_amiss kind x y) e).0, held_turned τ b.table s (turned_hand τ (hand_of n)) (side_of kind x y), hand_twice), refl, λ _. tt))
   faults_turned AskSlowestRate s = (ap (ltb max_rate) (slowest_turned τ b.table), refl, λ _. tt)
   faults_turned x s = tt
-
-  asked_turned : (r c : ℕ) (out : Bool) → off_sheet b.table r c ≡ out →
-      cond out None (Some (cell_at (turned_table τ b.table) (sent τ b.table r c).row (sent τ b.table r c).column)) ≡ turned_asked τ (cond out None (Some (cell_at b.table r c)))
-  asked_turned r c true e = refl
-  asked_turned r c false e =
-      let h : r < b.table.rows = on_row b.table r c e in
-      let k : c < b.table.columns = on_column b.table r c e in
-      ap Some (cell_turned τ b.table (sent τ b.table r c).row (sent τ b.table r c).column (sent_row τ b.table r c h k) (sent_column τ b.table r c h k)
-      ∙ ap (λ (p : Place). turned_cell τ (cell_at b.table p.row p.column)) (came_sent τ b.table r c h k))
 
   accepted_turned : (x : Call) → SoundAt (stage_of x) b.table → NoneThere (faults rules b x) → accepted rules (turned_book τ b) (on_sheet x) ≡ turned_page τ (accepted rules b x)
   accepted_turned (Prepare rows columns width) s n = λ i. on_page preparing (sym (blank_turned τ rows columns width) i) (poured_turned τ 0 i) Done
@@ -124,10 +84,14 @@ module _ (rules : Rules) (flux : LawfulFlux rules.water rules.push) (friction : 
       (ap (λ hand. set (turned_table τ b.table).sides (side_number hand) (side_of kind x y)) (hand_turned τ n (or_parts (ltb 3 n) (side_amiss kind x y) m.0).0)
       ∙ sym (sides_set τ (hand_of n) b.table.sides (side_of kind x y) s.four))
   accepted_turned (AskCell r c) s n =
-      ap (λ o. unchanged (turned_book τ b) (CellIs o))
-      (ap (λ x. cond x None (Some (cell_at (turned_table τ b.table) (sent τ b.table r c).row (sent τ b.table r c).column))) (off_turned τ b.table r c)
-      ∙ asked_turned r c (off_sheet b.table r c) refl)
-  accepted_turned AskStanding s n = ap (λ m. unchanged (turned_book τ b) (StandingIs m)) (standing_turned τ b.table)
+      rw (off_turned τ b.table r c)
+      (⊎_elim (λ (e : off_sheet b.table r c ≡ true). rw e)
+      (λ (e : off_sheet b.table r c ≡ false).
+      let h : r < b.table.rows = on_row b.table r c e in
+      let k : c < b.table.columns = on_column b.table r c e in
+      rw (e, cell_turned τ b.table _ _ (sent_row τ b.table r c h k) (sent_column τ b.table r c h k), came_sent τ b.table r c h k))
+      (cases_Bool (off_sheet b.table r c)))
+  accepted_turned AskStanding s n = rw (standing_turned τ b.table)
   accepted_turned AskSlowestRate s n = ap (λ r. unchanged (turned_book τ b) (RateIs r)) (slowest_turned τ b.table)
   accepted_turned x s n = refl
 
@@ -143,8 +107,8 @@ module _ (τ : Turn) (rows columns : ℕ) (b : Book) (size : OfSize rows columns
   sheet_size h = ⊎_elim (λ z. absurd (h z)) (λ z. z) size
 
   same_call : (x : Call) → b.stage ≡ stage_of x → turned_call τ rows columns x ≡ turned_call τ b.table.rows b.table.columns x
-  same_call (Lay r c bed depth) e = let z = sheet_size (λ s. cc) in ap₂ (λ m n. turned_call τ m n (Lay r c bed depth)) (sym z.0) (sym z.1)
-  same_call (AskCell r c) e = let z = sheet_size (λ s. cc) in ap₂ (λ m n. turned_call τ m n (AskCell r c)) (sym z.0) (sym z.1)
+  same_call (Lay r c bed depth) e = let z = sheet_size (λ s. cc) in rw (z.0, z.1)
+  same_call (AskCell r c) e = let z = sheet_size (λ s. cc) in rw (z.0, z.1)
   same_call x e = refl
 
   module _ (rules : Rules) (flux : LawfulFlux rules.water rules.push) (friction : LawfulFriction rules.slowed) (sound : SoundBook b) where

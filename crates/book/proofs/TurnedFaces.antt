@@ -137,11 +137,9 @@ meeting EastWest East t r c h k =
     let e : mirrored t.columns c ≡ suc (mirrored t.columns (c + 1)) = omega (arith, mirrored_in t.columns c k, mirrored_in t.columns (c + 1) l) in
     next_to (record { row = r; column = c + 1 }) h l (rw lt-ltb) (rw e))
     (λ (l : t.columns ≤ c + 1). let e : mirrored t.columns c ≡ 0 = omega (arith, mirrored_in t.columns c k) in at_a_side (rw le-ltb) (rw e)) (cases_lt (c + 1) t.columns)
-meeting EastWest South t zero c h k = at_a_side refl refl
 meeting EastWest South t (suc r) c h k = next_to (record { row = r; column = c }) (omega arith) k refl refl
 meeting EastWest North t r c h k =
     ⊎_elim (λ (l : r + 1 < t.rows). next_to (record { row = r + 1; column = c }) l k (rw lt-ltb) (rw (lt-ltb (r + 1) t.rows l))) (λ (l : t.rows ≤ r + 1). at_a_side (rw le-ltb) (rw (le-ltb (r + 1) t.rows l))) (cases_lt (r + 1) t.rows)
-meeting SouthNorth West t r zero h k = at_a_side refl refl
 meeting SouthNorth West t r (suc c) h k = next_to (record { row = r; column = c }) h (omega arith) refl refl
 meeting SouthNorth East t r c h k =
     ⊎_elim (λ (l : c + 1 < t.columns). next_to (record { row = r; column = c + 1 }) h l (rw lt-ltb) (rw (lt-ltb (c + 1) t.columns l))) (λ (l : t.columns ≤ c + 1). at_a_side (rw le-ltb) (rw (le-ltb (c + 1) t.columns l))) (cases_lt (c + 1) t.columns)
@@ -156,14 +154,13 @@ meeting SouthNorth North t r c h k =
     let e : mirrored t.rows r ≡ suc (mirrored t.rows (r + 1)) = omega (arith, mirrored_in t.rows r h, mirrored_in t.rows (r + 1) l) in
     next_to (record { row = r + 1; column = c }) l k (rw lt-ltb) (rw e))
     (λ (l : t.rows ≤ r + 1). let e : mirrored t.rows r ≡ 0 = omega (arith, mirrored_in t.rows r h) in at_a_side (rw le-ltb) (rw e)) (cases_lt (r + 1) t.rows)
-meeting RowsColumns West t r zero h k = at_a_side refl refl
 meeting RowsColumns West t r (suc c) h k = next_to (record { row = r; column = c }) h (omega arith) refl refl
 meeting RowsColumns East t r c h k =
     ⊎_elim (λ (l : c + 1 < t.rows). next_to (record { row = r; column = c + 1 }) h l (rw lt-ltb) (rw lt-ltb)) (λ (l : t.rows ≤ c + 1). at_a_side (rw le-ltb) (rw le-ltb)) (cases_lt (c + 1) t.rows)
-meeting RowsColumns South t zero c h k = at_a_side refl refl
 meeting RowsColumns South t (suc r) c h k = next_to (record { row = r; column = c }) (omega arith) k refl refl
 meeting RowsColumns North t r c h k =
     ⊎_elim (λ (l : r + 1 < t.columns). next_to (record { row = r + 1; column = c }) l k (rw lt-ltb) (rw lt-ltb)) (λ (l : t.columns ≤ r + 1). at_a_side (rw le-ltb) (rw le-ltb)) (cases_lt (r + 1) t.columns)
+meeting τ hand t r c h k = at_a_side refl refl
 
 -- ---- faces
 
