@@ -44,7 +44,7 @@ module _ {A : Type 0} (e : A) (op : A → A → A) (B : ℕ → (ℕ → A) → 
       below_front n (λ k. f (mirrored (suc n) k))
       ∙ (ap₂ op
       (ap f (mirrored_in (suc n) 0 (omega arith) ∙ omega arith))
-      (below_same n (λ k. f (mirrored (suc n) (suc k))) (λ k. f (mirrored n k)) (λ k l. ap f (mirrored_in (suc n) (suc k) (omega arith) ∙ omega (arith, mirrored_in n k l)))
+      (below_same n _ _ (λ k l. ap f (mirrored_in (suc n) (suc k) (omega arith) ∙ omega (arith, mirrored_in n k l)))
       ∙ below_mirrored n f)
       ∙ (comm (f n) (B n f) ∙ sym (more n f)))
 
@@ -60,29 +60,21 @@ module _ {A : Type 0} (e : A) (op : A → A → A) (B : ℕ → (ℕ → A) → 
   below_nothing (suc n) = cc (more n (λ k. e), below_nothing n, left e)
 
   below_swapped : (m n : ℕ) (f : ℕ → ℕ → A) → B m (λ r. B n (λ c. f r c)) ≡ B n (λ c. B m (λ r. f r c))
-  below_swapped zero n f = none (λ r. B n (λ c. f r c)) ∙ (sym (below_nothing n) ∙ below_same n (λ c. e) (λ c. B zero (λ r. f r c)) (λ c l. sym (none (λ r. f r c))))
+  below_swapped zero n f = none (λ r. B n (λ c. f r c)) ∙ (sym (below_nothing n) ∙ below_same n _ _ (λ c l. sym (none (λ r. f r c))))
   below_swapped (suc m) n f =
       more m (λ r. B n (λ c. f r c))
       ∙ (ap (λ x. op x (B n (λ c. f m c))) (below_swapped m n f)
-      ∙ (sym (below_op n (λ c. B m (λ r. f r c)) (λ c. f m c))
-      ∙ below_same n (λ c. op (B m (λ r. f r c)) (f m c)) (λ c. B (suc m) (λ r. f r c)) (λ c l. sym (more m (λ r. f r c)))))
+      ∙ (sym (below_op n (λ c. B m (λ r. f r c)) (f m))
+      ∙ below_same n _ _ (λ c l. sym (more m (λ r. f r c)))))
 
   -- over the places of a turned sheet
   places_turned : (τ : Turn) (rows columns : ℕ) (f g : ℕ → ℕ → A) →
       ((r c : ℕ) → r < turned_rows τ rows columns → c < turned_columns τ rows columns →
       f r c ≡ g (came_from τ rows columns r c).row (came_from τ rows columns r c).column) →
       B (turned_rows τ rows columns) (λ r. B (turned_columns τ rows columns) (λ c. f r c)) ≡ B rows (λ r. B columns (λ c. g r c))
-  places_turned EastWest rows columns f g h =
-      below_same rows (λ r. B columns (λ c. f r c)) (λ r. B columns (λ c. g r c)) (λ r l.
-      below_same columns (λ c. f r c) (λ c. g r (mirrored columns c)) (λ c m. h r c l m) ∙ below_mirrored columns (λ c. g r c))
-  places_turned SouthNorth rows columns f g h =
-      below_same rows (λ r. B columns (λ c. f r c)) (λ r. B columns (λ c. g (mirrored rows r) c)) (λ r l.
-      below_same columns (λ c. f r c) (λ c. g (mirrored rows r) c) (λ c m. h r c l m))
-      ∙ below_mirrored rows (λ r. B columns (λ c. g r c))
-  places_turned RowsColumns rows columns f g h =
-      below_same columns (λ r. B rows (λ c. f r c)) (λ r. B rows (λ c. g c r)) (λ r l.
-      below_same rows (λ c. f r c) (λ c. g c r) (λ c m. h r c l m))
-      ∙ below_swapped columns rows (λ r c. g c r)
+  places_turned EastWest rows columns f g h = below_same rows _ _ (λ r l. below_same columns _ _ (λ c m. h r c l m) ∙ below_mirrored columns (g r))
+  places_turned SouthNorth rows columns f g h = below_same rows _ _ (λ r l. below_same columns _ _ (λ c m. h r c l m)) ∙ below_mirrored rows (λ r. B columns (λ c. g r c))
+  places_turned RowsColumns rows columns f g h = below_same columns _ _ (λ r l. below_same rows _ _ (λ c m. h r c l m)) ∙ below_swapped columns rows (λ r c. g c r)
 
 -- ---- sums
 
@@ -113,15 +105,13 @@ sum_turned = places_turned 0 ◌+◌ sum_below (λ f. refl) (λ n f. refl) zero-
 
 -- over all places
 pub total_same : (rows columns : ℕ) (f g : ℕ → ℕ → ℕ) → ((r c : ℕ) → r < rows → c < columns → f r c ≡ g r c) → sum_below rows (λ r. sum_below columns (λ c. f r c)) ≡ sum_below rows (λ r. sum_below columns (λ c. g r c))
-total_same rows columns f g h = sum_same rows (λ r. sum_below columns (λ c. f r c)) (λ r. sum_below columns (λ c. g r c)) (λ r p. sum_same columns (λ c. f r c) (λ c. g r c) (λ c q. h r c p q))
+total_same rows columns f g h = sum_same rows _ _ (λ r p. sum_same columns _ _ (λ c q. h r c p q))
 
 pub total_add : (rows columns : ℕ) (f g : ℕ → ℕ → ℕ) → sum_below rows (λ r. sum_below columns (λ c. f r c + g r c)) ≡ sum_below rows (λ r. sum_below columns (λ c. f r c)) + sum_below rows (λ r. sum_below columns (λ c. g r c))
-total_add rows columns f g =
-    sum_same rows (λ r. sum_below columns (λ c. f r c + g r c)) (λ r. sum_below columns (λ c. f r c) + sum_below columns (λ c. g r c)) (λ r p. sum_add columns (λ c. f r c) (λ c. g r c))
-    ∙ sum_add rows (λ r. sum_below columns (λ c. f r c)) (λ r. sum_below columns (λ c. g r c))
+total_add rows columns f g = sum_same rows _ _ (λ r p. sum_add columns (f r) (g r)) ∙ sum_add rows (λ r. sum_below columns (λ c. f r c)) (λ r. sum_below columns (λ c. g r c))
 
 pub total_even : (rows columns n : ℕ) → sum_below rows (λ r. sum_below columns (λ c. n)) ≡ rows * (columns * n)
-total_even rows columns n = sum_same rows (λ r. sum_below columns (λ c. n)) (λ r. columns * n) (λ r p. sum_even columns n) ∙ sum_even rows (columns * n)
+total_even rows columns n = sum_same rows _ _ (λ r p. sum_even columns n) ∙ sum_even rows (columns * n)
 
 -- ---- what enters and leaves the cells of a sheet over their faces: within the sheet it cancels
 

@@ -76,8 +76,8 @@ module _ (rules : Rules) (flux : LawfulFlux rules.water rules.push) (τ : Turn) 
   passed_turned : (rate : ℕ) (hand : Hand) (p : Passed) → passed_by rules (turned_table τ t) rate hand p ≡ passed_by rules t rate (turned_hand τ hand) p
   passed_turned rate hand p =
       ap₂ (λ x y. record { into = p.into + x; out = p.out + y })
-      (side_turned_by sum_below sum_same sum_mirrored t (rows_some t sound) (columns_some t sound) τ hand (λ r c. arrives rules (turned_table τ t) rate r c hand) (λ r c. arrives rules t rate r c (turned_hand τ hand)) (λ r c h k. arrives_here r c h k rate hand))
-      (side_turned_by sum_below sum_same sum_mirrored t (rows_some t sound) (columns_some t sound) τ hand (λ r c. leaves rules (turned_table τ t) rate r c hand) (λ r c. leaves rules t rate r c (turned_hand τ hand)) (λ r c h k. leaves_here r c h k rate hand))
+      (side_turned_by sum_below sum_same sum_mirrored t (rows_some t sound) (columns_some t sound) τ hand _ (λ r c. arrives rules t rate r c (turned_hand τ hand)) (λ r c h k. arrives_here r c h k rate hand))
+      (side_turned_by sum_below sum_same sum_mirrored t (rows_some t sound) (columns_some t sound) τ hand _ (λ r c. leaves rules t rate r c (turned_hand τ hand)) (λ r c h k. leaves_here r c h k rate hand))
 
 pub step_account : (rules : Rules) → LawfulFlux rules.water rules.push → (τ : Turn) (t : Table) → Sound t → (rate : ℕ) (a : Account) →
     account_after_step rules (turned_table τ t) rate (turned_account τ a) ≡ turned_account τ (account_after_step rules t rate a)

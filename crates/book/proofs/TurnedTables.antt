@@ -81,26 +81,18 @@ module _ {A : Type 0} (B : ℕ → (ℕ → A) → A)
   pub side_turned_by : (τ : Turn) (hand : Hand) (f g : ℕ → ℕ → A) →
       ((r c : ℕ) → r < high τ t → c < wide τ t → f r c ≡ g (came τ t r c).row (came τ t r c).column) →
       along_side B (high τ t) (wide τ t) hand f ≡ along_side B t.rows t.columns (turned_hand τ hand) g
-  side_turned_by EastWest West f g h =
-      same t.rows (λ r. f r 0) (λ r. g r (t.columns - 1)) (λ r l. h r 0 l broad ∙ ap (λ c. g r c) (mirrored_first t.columns broad))
-  side_turned_by EastWest East f g h =
-      same t.rows (λ r. f r (t.columns - 1)) (λ r. g r 0) (λ r l. h r (t.columns - 1) l (omega arith) ∙ ap (λ c. g r c) (mirrored_last t.columns broad))
-  side_turned_by EastWest South f g h =
-      same t.columns (λ c. f 0 c) (λ c. g 0 (mirrored t.columns c)) (λ c l. h 0 c tall l) ∙ mirror t.columns (λ c. g 0 c)
-  side_turned_by EastWest North f g h =
-      same t.columns (λ c. f (t.rows - 1) c) (λ c. g (t.rows - 1) (mirrored t.columns c)) (λ c l. h (t.rows - 1) c (omega arith) l) ∙ mirror t.columns (λ c. g (t.rows - 1) c)
-  side_turned_by SouthNorth West f g h =
-      same t.rows (λ r. f r 0) (λ r. g (mirrored t.rows r) 0) (λ r l. h r 0 l broad) ∙ mirror t.rows (λ r. g r 0)
-  side_turned_by SouthNorth East f g h =
-      same t.rows (λ r. f r (t.columns - 1)) (λ r. g (mirrored t.rows r) (t.columns - 1)) (λ r l. h r (t.columns - 1) l (omega arith)) ∙ mirror t.rows (λ r. g r (t.columns - 1))
-  side_turned_by SouthNorth South f g h =
-      same t.columns (λ c. f 0 c) (λ c. g (t.rows - 1) c) (λ c l. h 0 c tall l ∙ ap (λ r. g r c) (mirrored_first t.rows tall))
-  side_turned_by SouthNorth North f g h =
-      same t.columns (λ c. f (t.rows - 1) c) (λ c. g 0 c) (λ c l. h (t.rows - 1) c (omega arith) l ∙ ap (λ r. g r c) (mirrored_last t.rows tall))
-  side_turned_by RowsColumns West f g h = same t.columns (λ r. f r 0) (λ r. g 0 r) (λ r l. h r 0 l tall)
-  side_turned_by RowsColumns East f g h = same t.columns (λ r. f r (t.rows - 1)) (λ r. g (t.rows - 1) r) (λ r l. h r (t.rows - 1) l (omega arith))
-  side_turned_by RowsColumns South f g h = same t.rows (λ c. f 0 c) (λ c. g c 0) (λ c l. h 0 c broad l)
-  side_turned_by RowsColumns North f g h = same t.rows (λ c. f (t.columns - 1) c) (λ c. g c (t.columns - 1)) (λ c l. h (t.columns - 1) c (omega arith) l)
+  side_turned_by EastWest West f g h = same _ _ _ (λ r l. h r 0 l broad ∙ ap (g r) (mirrored_first t.columns broad))
+  side_turned_by EastWest East f g h = same _ _ _ (λ r l. h r (t.columns - 1) l (omega arith) ∙ ap (g r) (mirrored_last t.columns broad))
+  side_turned_by EastWest South f g h = same _ _ _ (λ c l. h 0 c tall l) ∙ mirror t.columns (g 0)
+  side_turned_by EastWest North f g h = same _ _ _ (λ c l. h (t.rows - 1) c (omega arith) l) ∙ mirror t.columns (g (t.rows - 1))
+  side_turned_by SouthNorth West f g h = same _ _ _ (λ r l. h r 0 l broad) ∙ mirror t.rows (λ r. g r 0)
+  side_turned_by SouthNorth East f g h = same _ _ _ (λ r l. h r (t.columns - 1) l (omega arith)) ∙ mirror t.rows (λ r. g r (t.columns - 1))
+  side_turned_by SouthNorth South f g h = same _ _ _ (λ c l. h 0 c tall l ∙ ap (λ r. g r c) (mirrored_first t.rows tall))
+  side_turned_by SouthNorth North f g h = same _ _ _ (λ c l. h (t.rows - 1) c (omega arith) l ∙ ap (λ r. g r c) (mirrored_last t.rows tall))
+  side_turned_by RowsColumns West f g h = same _ _ _ (λ r l. h r 0 l tall)
+  side_turned_by RowsColumns East f g h = same _ _ _ (λ r l. h r (t.rows - 1) l (omega arith))
+  side_turned_by RowsColumns South f g h = same _ _ _ (λ c l. h 0 c broad l)
+  side_turned_by RowsColumns North f g h = same _ _ _ (λ c l. h (t.columns - 1) c (omega arith) l)
 
 -- ---- cells
 
