@@ -6,14 +6,14 @@ use Rattle.book.specs.declared.cell.Cell.{Cell}
 use Rattle.book.specs.declared.side.Hand.TheVariants.{West, East, South, North}
 use Rattle.book.specs.declared.account.Account.{Account}
 use Rattle.book.specs.declared.call.Call.{Call}
-use Rattle.book.specs.declared.call.Call.TheVariants.{Open as Opening, Step, Rain, Soak, AskCell, AskAccount, AskStanding, AskSlowestRate}
+use Rattle.book.specs.declared.call.Call.TheVariants.{Open as Opening, Step, Rain, Soak}
 use Rattle.rules.specs.Flux.{LawfulFlux}
 use Rattle.rules.specs.Friction.{LawfulFriction}
 use Rattle.book.specs.Faces.{Face}
 use Rattle.book.specs.Step.{Rules, gives, takes}
 use Rattle.book.specs.Sheets.{Table, cell_at, face, span, leaves, arrives, sum_places, with_cells, standing, too_slow, stepped}
-use Rattle.book.specs.Accounts.{account_after_step, rain_more, soak_more}
-use Rattle.book.specs.Calls.{Book, Stage, serving, closed, soaked, rained, at_rest, stage_of, faults, accepted, empty_book, soaked_away, book_after, rained_on}
+use Rattle.book.specs.Accounts.{account_after_step, soak_more}
+use Rattle.book.specs.Calls.{Book, Stage, serving, closed, soaked, rained, at_rest, stage_of, faults, accepted, empty_book, soaked_away, book_after}
 use Rattle.book.proofs.Sound.{Sound, SoundAt, SoundBook}
 use Rattle.book.specs.Laws.{Balanced, Opened}
 use Rattle.book.proofs.Sums.{sheet_balance, total_same, total_add, total_even}
@@ -52,18 +52,16 @@ BalancedBook b = BalancedAt b.stage b.table b.account
 -- the water that stands after every cell is changed alike
 standing_map : (t : Table) → Sound t → (f : Cell → Cell) → standing (with_cells t (map f t.cells)) ≡ sum_places t (λ r c. (f (cell_at t r c)).depth)
 standing_map t sound f =
-    total_same t.rows t.columns (λ r c. (cell_at (with_cells t (map f t.cells)) r c).depth) (λ r c. (f (cell_at t r c)).depth)
-    (λ r c p q. rw (map_at t.rows t.columns t.cells f r c sound.sized p q))
-
-rain_balanced : (t : Table) → Sound t → (a : Account) (n : ℕ) → BalancedAt serving t a → BalancedAt serving (with_cells t (map (rained n) t.cells)) (rain_more a (rained_on t n))
-rain_balanced t sound a n h = omega (arith, standing_map t sound (rained n), total_add t.rows t.columns (λ r c. (cell_at t r c).depth) (λ r c. n), total_even t.rows t.columns n)
+    total_same t.rows t.columns _ (λ r c. (f (cell_at t r c)).depth) (λ r c p q. rw (map_at t.rows t.columns t.cells f r c sound.sized p q))
 
 soak_balanced : (t : Table) → Sound t → (a : Account) (n : ℕ) → BalancedAt serving t a → BalancedAt serving (with_cells t (map (soaked n) t.cells)) (soak_more a (soaked_away t n))
 soak_balanced t sound a n h =
-    let e = standing_map t sound (soaked n) in
-    let u = total_add t.rows t.columns (λ r c. (soaked n (cell_at t r c)).depth) (λ r c. min (cell_at t r c).depth n) in
-    let v = total_same t.rows t.columns (λ r c. (soaked n (cell_at t r c)).depth + min (cell_at t r c).depth n) (λ r c. (cell_at t r c).depth) (λ r c p q. omega arith) in
-    omega arith
+    omega (
+      arith,
+      standing_map t sound (soaked n),
+      total_add t.rows t.columns (λ r c. (soaked n (cell_at t r c)).depth) (λ r c. min (cell_at t r c).depth n),
+      total_same t.rows t.columns (λ r c. (soaked n (cell_at t r c)).depth + min (cell_at t r c).depth n) (λ r c. (cell_at t r c).depth) (λ r c p q. omega arith),
+    )
 
 module _ (rules : Rules) (flux : LawfulFlux rules.water rules.push) (t : Table) (sound : Sound t) (rate : ℕ) (paced : too_slow t rate ≡ false) where
   step_balanced : (a : Account) → BalancedAt serving t a → BalancedAt serving (stepped rules t rate) (account_after_step rules t rate a)
@@ -81,15 +79,11 @@ module _ (rules : Rules) (flux : LawfulFlux rules.water rules.push) (t : Table) 
 
 module _ (rules : Rules) (flux : LawfulFlux rules.water rules.push) (friction : LawfulFriction rules.slowed) where
   accepted_balanced : (b : Book) (x : Call) → BalancedBook b → SoundAt (stage_of x) b.table → BalancedAt (stage_of x) b.table b.account → NoneThere (faults rules b x) → BalancedBook (accepted rules b x).book
-  accepted_balanced b Opening h s g n = let e = standing_map b.table s.0 at_rest in omega arith
+  accepted_balanced b Opening h s g n = omega (arith, standing_map b.table s.0 at_rest)
   accepted_balanced b (Step rate) h s g n = step_balanced rules flux b.table s rate n.1.0 b.account g
-  accepted_balanced b (Rain amount) h s g n = rain_balanced b.table s b.account amount g
+  accepted_balanced b (Rain amount) h s g n = omega (arith, standing_map b.table s (rained amount), total_add b.table.rows b.table.columns (λ r c. (cell_at b.table r c).depth) (λ r c. amount), total_even b.table.rows b.table.columns amount)
   accepted_balanced b (Soak amount) h s g n = soak_balanced b.table s b.account amount g
-  accepted_balanced b (AskCell row column) h s g n = h
-  accepted_balanced b AskAccount h s g n = h
-  accepted_balanced b AskStanding h s g n = h
-  accepted_balanced b AskSlowestRate h s g n = h
-  accepted_balanced b x h s g n = g
+  accepted_balanced b x h s g n = assumption (g, h)
 
   pub balanced : (calls : List Call) → Opened (book_after rules calls) → Balanced (book_after rules calls)
   balanced calls e = ⊎_elim at at e

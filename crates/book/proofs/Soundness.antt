@@ -13,9 +13,7 @@ use Rattle.book.specs.declared.call.Call.TheVariants.{Prepare, Lay, Open as Open
 use Rattle.book.specs.declared.reply.Reply.TheVariants.{Done}
 use Rattle.rules.specs.Flux.{LawfulFlux}
 use Rattle.rules.specs.Friction.{LawfulFriction}
-use Rattle.book.specs.Ranges.{outside, outsideℤ, max_depth, max_velocity, max_bed, max_rate, rate_amiss, size_amiss}
-use Rattle.book.specs.Numbers.{positive}
-use Rattle.book.specs.Faces.{held_depth}
+use Rattle.book.specs.Ranges.{outside, max_depth, max_velocity, max_bed, max_rate, rate_amiss, size_amiss}
 use Rattle.book.specs.Step.{Rules}
 use Rattle.book.specs.Sheets.{Table, cell_at, no_cell, side_at, side_number, span, face, border_length, border_cell, leaving, new_cell, over_brim, grid, with_cells, with_sides, four_walls, blank, stepped, arriving}
 use Rattle.book.specs.Calls.{Book, Stage, start, preparing, serving, empty_book, fresh, held_over, hand_of, side_of, side_amiss, soaked, rained, at_rest, stage_of, faults, accepted, answer, book_after}
@@ -31,7 +29,7 @@ use Rattle.book.proofs.Steps.{still_ranged, soaked_ranged, rained_ranged, new_ra
 -- ---- cells changed, beds kept
 
 ghost_bed : (s : Side) (k l : Cell) → k.bed ≡ l.bed → GhostKept s l → GhostKept s k
-ghost_bed (Held a) k l e h = subst (λ z. held_depth a z ≤ max_depth) (sym e) h
+ghost_bed (Held a) k l e h = rw e h
 ghost_bed s k l e h = h
 
 cells_sound : (t : Table) → Sound t → (cells : List Cell) → length cells ≡ t.rows * t.columns →
@@ -51,29 +49,15 @@ map_sound : (t : Table) → Sound t → (f : Cell → Cell) → ((k : Cell) → 
     ((r c : ℕ) → r < t.rows → c < t.columns → Ranged (f (cell_at t r c))) → Sound (with_cells t (map f t.cells))
 map_sound t sound f bed ranged =
     cells_sound t sound (map f t.cells) (length-map t.cells f ∙ sound.sized)
-    (λ r c p q. subst Ranged (sym (map_at t.rows t.columns t.cells f r c sound.sized p q)) (ranged r c p q))
-    (λ r c p q. ap (λ (k : Cell). k.bed) (map_at t.rows t.columns t.cells f r c sound.sized p q) ∙ bed (cell_at t r c))
+    (λ r c p q. rw (map_at t.rows t.columns t.cells f r c sound.sized p q) (ranged r c p q))
+    (λ r c p q. rw (map_at t.rows t.columns t.cells f r c sound.sized p q) (bed (cell_at t r c)))
 
 -- ---- sides changed
 
-sides_sound : (t : Table) (sides : List Side) → Sound t → length sides ≡ 4 →
-    ((hand : Hand) (k : ℕ) → k < border_length t.rows t.columns hand → GhostKept (get_or sides (side_number hand) Wall) (border_cell t hand k)) →
-    Sound (with_sides t sides)
-sides_sound t sides sound four ghosts = record {
-  size = sound.size;
-  sized = sound.sized;
-  four = four;
-  ranged = sound.ranged;
-  ghosts = ghosts;
-}
-
 -- walls hold any cell
 walled : (sides : List Side) → sides ≡ four_walls → (hand : Hand) (k : Cell) → GhostKept (get_or sides (side_number hand) Wall) k
-walled sides e hand k = subst (λ xs. GhostKept (get_or xs (side_number hand) Wall) k) (sym e) (by hand)
-  where
-    by : (hand : Hand) → GhostKept (get_or four_walls (side_number hand) Wall) k
-    by West = tt
-    by hand = tt
+walled sides e West k = rw e tt
+walled sides e hand k = rw e tt
 
 -- a side that a call may set
 abbrev Allowed : Side → Type 0
@@ -82,15 +66,12 @@ Allowed Open = Unit {0}
 Allowed (Held a) = Unit {0}
 Allowed (Fed a b) = (1 ≤ a) × (a ≤ max_depth) × (b ≤ max_velocity)
 
-fed_depth : (a : ℤ) → outsideℤ (pos 1) (pos max_depth) a ≡ false → (1 ≤ positive a) × (positive a ≤ max_depth)
-fed_depth (pos n) e = inside 1 max_depth n e
-fed_depth (negsuc n) e = cc
-
 side_allowed : (kind : ℕ) (a : ℤ) (b : ℕ) → side_amiss kind a b ≡ false → Allowed (side_of kind a b)
-side_allowed (suc (suc (suc zero))) a b e =
-    let o = or_parts (outsideℤ (pos 1) (pos max_depth) a) (outside 1 max_velocity b) e in
-    let d = fed_depth a o.0 in
+side_allowed (suc (suc (suc zero))) (pos a) b e =
+    let o = or_parts (outside 1 max_depth a) (outside 1 max_velocity b) e in
+    let d = inside 1 max_depth a o.0 in
     (d.0, d.1, (inside 1 max_velocity b o.1).1)
+side_allowed (suc (suc (suc zero))) (negsuc a) b e = cc
 side_allowed (suc (suc (suc (suc n)))) a b e = cc
 side_allowed kind a b e = tt
 
@@ -105,14 +86,14 @@ module _ (t : Table) (sound : Sound t) (hand : Hand) (s : Side) (allowed : Allow
       GhostKept (get_or (set t.sides (side_number hand) s) (side_number other) Wall) (border_cell t other k)
   set_ghosts other k h =
       ⊎_elim
-      (λ n.
-      let is : hand ≡ other = sym (hand_there hand) ∙ (ap hand_of (sym n) ∙ hand_there other) in
+      (λ (n : side_number other ≡ side_number hand).
+      let is : hand ≡ other = cc (hand_there hand, hand_there other) in
       rw (get_or-set_at t.sides (side_number hand) (side_number other) s Wall n (omega (arith, number_below hand, sound.four))) (changed_ghosts s allowed other (subst (λ x. held_over t x s ≡ false) is over) k h))
       (λ n. rw (get_or-set_other t.sides (side_number hand) (side_number other) s Wall n) (sound.ghosts other k h))
       (cases_eq (side_number other) (side_number hand))
 
   change_sound : Sound (with_sides t (set t.sides (side_number hand) s))
-  change_sound = sides_sound t (set t.sides (side_number hand) s) sound (length-set t.sides (side_number hand) s ∙ sound.four) set_ghosts
+  change_sound = record { size = sound.size; sized = sound.sized; four = length-set t.sides (side_number hand) s ∙ sound.four; ranged = sound.ranged; ghosts = set_ghosts }
 
 -- ---- preparing
 
@@ -121,7 +102,7 @@ blank_sound rows columns width size = record {
   size = size;
   sized = length-replicate (rows * columns) no_cell;
   four = refl;
-  ranged = λ r c p q. subst Ranged (sym (get_or-replicate (rows * columns) (r * columns + c) no_cell no_cell (place_below rows columns r c p q))) (still_ranged false (pos 0) 0 zero-le zero-le);
+  ranged = λ r c p q. rw (get_or-replicate (rows * columns) (r * columns + c) no_cell no_cell (place_below rows columns r c p q)) (still_ranged false (pos 0) 0 zero-le zero-le);
   ghosts = λ hand k h. walled four_walls refl hand _;
 }
 
@@ -140,9 +121,8 @@ lay_sound t sound walls row column bed depth bedded shallow = record {
 
 open_sound : (t : Table) → Sound t → Sound (with_sides (with_cells t (map at_rest t.cells)) four_walls)
 open_sound t sound =
-    sides_sound (with_cells t (map at_rest t.cells)) four_walls
-    (map_sound t sound at_rest (λ k. refl) (λ r c p q. still_ranged (cell_at t r c).laid (cell_at t r c).bed (cell_at t r c).depth (sound.ranged r c p q).bed (sound.ranged r c p q).depth)) refl
-    (λ hand k h. walled four_walls refl hand _)
+    let s = map_sound t sound at_rest (λ k. refl) (λ r c p q. still_ranged (cell_at t r c).laid (cell_at t r c).bed (cell_at t r c).depth (sound.ranged r c p q).bed (sound.ranged r c p q).depth) in
+    record { size = s.size; sized = s.sized; four = refl; ranged = s.ranged; ghosts = λ hand k h. walled four_walls refl hand _ }
 
 -- ---- the calls
 

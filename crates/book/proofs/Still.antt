@@ -1,7 +1,7 @@
 -- Still water stays as it is.
 use Rattle.std.proofs.Common.{◌≡◌, ℕ, ◌*◌, ◌<◌, ◌≤◌, true, false, ltb, ◌⊎◌, List, [], ◌∷◌, ℤ, pos, ◌-ℤ◌, neg_ℤ, Some, None, Option, sym, refl, ap, ◌∙◌, subst, inl, inr, arith}
 use Rattle.std.proofs.lemmas.Int.{ints}
-use Rattle.std.proofs.lemmas.Bool.{false≢true, ltb-false, cond_both}
+use Rattle.std.proofs.lemmas.Bool.{ltb-false, cond_both}
 use Rattle.book.specs.declared.cell.Cell.{Cell}
 use Rattle.book.specs.declared.side.Hand.{Hand}
 use Rattle.book.specs.declared.side.Hand.TheVariants.{West, East, South, North}
@@ -10,7 +10,7 @@ use Rattle.book.specs.declared.side.Side.TheVariants.{Wall, Fed}
 use Rattle.book.specs.declared.account.Passed.{Passed}
 use Rattle.book.specs.declared.account.Account.{Account}
 use Rattle.book.specs.declared.call.Call.{Call}
-use Rattle.book.specs.declared.call.Call.TheVariants.{Step, AskCell, AskAccount, AskStanding, AskSlowestRate}
+use Rattle.book.specs.declared.call.Call.TheVariants.{Step}
 use Rattle.rules.specs.Flux.{LawfulFlux}
 use Rattle.rules.specs.Friction.{LawfulFriction}
 use Rattle.rules.specs.Side.{discharge, momentum}
@@ -99,15 +99,11 @@ module _ (rules : Rules) (flux : LawfulFlux rules.water rules.push) where
 
       same_cell : cell_after rules cell faces k rate ≡ cell
       same_cell =
-          let east : thinned (depth_after rules cell faces k) (rules.slowed (raw_east rules cell faces k) (speed cell) (depth_after rules cell faces k) rate) ≡ cell.east = no_flow (depth_after rules cell faces k) (raw_east rules cell faces k) same_depth no_raw_east ∙ sym still_east in
-          let north : thinned (depth_after rules cell faces k) (rules.slowed (raw_north rules cell faces k) (speed cell) (depth_after rules cell faces k) rate) ≡ cell.north = no_flow (depth_after rules cell faces k) (raw_north rules cell faces k) same_depth no_raw_north ∙ sym still_north in
+          let east = no_flow (depth_after rules cell faces k) (raw_east rules cell faces k) same_depth no_raw_east ∙ sym still_east in
+          let north = no_flow (depth_after rules cell faces k) (raw_north rules cell faces k) same_depth no_raw_north ∙ sym still_north in
           λ i. record { laid = cell.laid; bed = cell.bed; depth = same_depth i; east = east i; north = north i }
 
 -- ---- the faces of a still table
-
-column_still : (hand : Hand) (k : Cell) → k.east ≡ pos 0 → k.north ≡ pos 0 → (column hand k).normal ≡ pos 0
-column_still West k e n = cc (velocity_zero k.depth)
-column_still hand k e n = cc (velocity_zero k.depth)
 
 ghost_still : (s : Side) (hand : Hand) (k : Column) → fed s ≡ false → k.normal ≡ pos 0 → (ghost s hand k).normal ≡ pos 0
 ghost_still Wall hand k u n = ap neg_ℤ n
@@ -124,7 +120,9 @@ face_still hand own far p q = meet_still own far p q
 
 module _ (t : Table) (still : Still t) (sound : Sound t) where
   own_still : (r c : ℕ) → r < t.rows → c < t.columns → (hand : Hand) → (column hand (cell_at t r c)).normal ≡ pos 0
-  own_still r c h k hand = column_still hand (cell_at t r c) (still.east_still r c (h, k)) (still.north_still r c (h, k))
+  own_still r c h k West = cc (still.east_still r c (h, k), velocity_zero (cell_at t r c).depth)
+  own_still r c h k East = cc (still.east_still r c (h, k), velocity_zero (cell_at t r c).depth)
+  own_still r c h k hand = cc (still.north_still r c (h, k), velocity_zero (cell_at t r c).depth)
 
   seen_still : (r c : ℕ) → r < t.rows → c < t.columns → (hand : Hand) (o : Option Place) → Stands t r c hand o → (seen t r c hand o).normal ≡ pos 0
   seen_still r c h k hand (Some p) s = own_still p.row p.column s.0 s.1 hand
@@ -160,11 +158,7 @@ module _ (rules : Rules) (flux : LawfulFlux rules.water rules.push) (friction : 
         let cells = same_cells b.table still sound rate w.0 w.1 in
         let account = same_account b.table still sound rate b.account in
         λ i. record { stage = sym serves i; table = with_cells b.table (cells i); account = account i }
-    accepted_leaves (AskCell row column) e n = refl
-    accepted_leaves AskAccount e n = refl
-    accepted_leaves AskStanding e n = refl
-    accepted_leaves AskSlowestRate e n = refl
-    accepted_leaves x e n = absurd (false≢true e)
+    accepted_leaves x e n = cc
 
     quiet_leaves : (x : Call) → (step_or_question x ≡ true) ⊎ Refuses rules b x → (answer rules b x).book ≡ b
     quiet_leaves x (inl e) = answer_book rules (λ z. z ≡ b) b x refl (λ _ n. accepted_leaves x e n)
