@@ -1,26 +1,23 @@
 -- An answer is a refusal that leaves the book, or the page of a call that fits the stage and has no fault.
-use Rattle.std.proofs.Common.{◌≡◌, true, false, not, eqb, List, [], ◌∷◌, refl, lit<}
+use Rattle.std.proofs.Common.{arith, ◌≡◌, true, false, not, List, [], ◌∷◌, refl}
 use Rattle.std.proofs.lemmas.Bool.{not-false, cond_both}
 use Rattle.book.specs.declared.call.Call.{Call}
-use Rattle.book.specs.declared.call.Call.TheVariants.{Prepare, Lay, Step, Rain, Soak, ChangeSide}
+use Rattle.book.specs.declared.call.Call.TheVariants.{Prepare, Step}
 use Rattle.book.specs.declared.refusal.Refusal.{Refusal}
 use Rattle.book.specs.declared.refusal.Refusal.TheVariants.{OutOfStage}
 use Rattle.book.specs.declared.reply.Reply.TheVariants.{Done, Refused}
 use Rattle.book.specs.Step.{Rules}
-use Rattle.book.specs.Calls.{Book, Stage, start, preparing, serving, closed, Page, Fault, fault, unchanged, stage_of, stage_number, fits, judged, faults, accepted, answer, after}
+use Rattle.book.specs.Calls.{Book, Stage, start, preparing, serving, closed, Page, Fault, fault, unchanged, stage_of, fits, judged, faults, accepted, answer, after}
 use Rattle.book.specs.Laws.{is_refusal, InOrder}
 
 -- ---- the stage
 
-one_stage : (s t : Stage) → eqb (stage_number s) (stage_number t) ≡ true → s ≡ t
-one_stage start start e = refl
-one_stage preparing preparing e = refl
-one_stage serving serving e = refl
-one_stage closed closed e = refl
-one_stage s t e = cc
-
 pub stage_is : (s : Stage) (x : Call) → fits s x ≡ true → s ≡ stage_of x
-stage_is s x e = one_stage s (stage_of x) e
+stage_is start (Prepare rows columns width) e = cc
+stage_is preparing (Prepare rows columns width) e = cc
+stage_is serving (Prepare rows columns width) e = cc
+stage_is closed (Prepare rows columns width) e = cc
+stage_is s x e = cc
 
 -- ---- what an answer can be
 
@@ -63,9 +60,5 @@ module _ (rules : Rules) where
 
   -- the faults stand in the order of their numbers
   pub in_order : (b : Book) (x : Call) → InOrder (faults rules b x)
-  in_order b (Lay row column bed depth) = (lit< tt, (lit< tt, tt))
-  in_order b (Step rate) = (lit< tt, (lit< tt, (lit< tt, tt)))
-  in_order b (Rain amount) = (lit< tt, (lit< tt, tt))
-  in_order b (Soak amount) = (lit< tt, tt)
-  in_order b (ChangeSide side kind x y) = (lit< tt, tt)
-  in_order b x = tt
+  in_order b (Step rate) = search arith
+  in_order b x = search arith

@@ -25,16 +25,12 @@ columns_some t sound = grind (arith, or_parts, nat_tests, sound.size)
 
 -- a place along a side is on the sheet
 pub border_row : (t : Table) → Sound t → (hand : Hand) (k : ℕ) → k < border_length t.rows t.columns hand → (border_place t.rows t.columns hand k).row < t.rows
-border_row t sound West k h = h
-border_row t sound East k h = h
-border_row t sound South k h = rows_some t sound
-border_row t sound North k h = omega (arith, rows_some t sound)
+border_row t sound West k h = omega (arith, rows_some t sound)
+border_row t sound hand k h = omega (arith, rows_some t sound)
 
 pub border_column : (t : Table) → Sound t → (hand : Hand) (k : ℕ) → k < border_length t.rows t.columns hand → (border_place t.rows t.columns hand k).column < t.columns
-border_column t sound West k h = columns_some t sound
-border_column t sound East k h = omega (arith, columns_some t sound)
-border_column t sound South k h = h
-border_column t sound North k h = h
+border_column t sound West k h = omega (arith, columns_some t sound)
+border_column t sound hand k h = omega (arith, columns_some t sound)
 
 -- ---- in a sound table: the neighbour is on the sheet, or the cell stands at that side
 

@@ -1,5 +1,5 @@
 -- Every list of calls leaves a sound table; no step overdraws a cell.
-use Rattle.std.proofs.Common.{◌≡◌, ℕ, zero, suc, ◌+◌, ◌*◌, ◌<◌, ◌≤◌, true, false, ltb, List, map, length, get_or, set, ℤ, pos, negsuc, nat_abs, sym, refl, ap, ◌∙◌, subst, ⊎_elim, zero-le, arith}
+use Rattle.std.proofs.Common.{◌≡◌, ℕ, zero, suc, ◌+◌, ◌*◌, ◌<◌, ◌≤◌, true, false, ltb, List, map, length, get_or, set, ℤ, pos, negsuc, nat_abs, refl, ap, ◌∙◌, subst, ⊎_elim, zero-le, arith}
 use Rattle.std.proofs.lemmas.Grind.{get_or-set_at}
 use Rattle.std.proofs.lemmas.List.{get_or-set_other, get_or-replicate, length-set, length-map, length-replicate}
 use Rattle.std.proofs.lemmas.Bool.{ltb-false, cases_eq, or_parts}
@@ -19,7 +19,9 @@ use Rattle.book.specs.Sheets.{Table, cell_at, no_cell, side_at, side_number, spa
 use Rattle.book.specs.Calls.{Book, Stage, start, preparing, serving, empty_book, fresh, held_over, hand_of, side_of, side_amiss, soaked, rained, at_rest, stage_of, faults, accepted, answer, book_after}
 use Rattle.book.proofs.Sound.{Ranged, Sound, GhostKept, SoundAt, SoundBook}
 use Rattle.book.specs.Laws.{OnSheet}
-use Rattle.book.proofs.Numbers.{inside, bed_inside}
+use Rattle.book.proofs.Numbers.{inside}
+use Rattle.std.proofs.lemmas.Int.{ints}
+use Rattle.std.proofs.lemmas.Bool.Decides.{nat_tests}
 use Rattle.book.proofs.Sums.{none_below, no_place}
 use Rattle.book.proofs.Grids.{grid_at, length_grid, map_at, place_below}
 use Rattle.book.proofs.Neighbours.{hand_there, number_below, border_row, border_column}
@@ -131,13 +133,13 @@ module _ (rules : Rules) (friction : LawfulFriction rules.slowed) where
   step_sound t sound rate e brim =
       let rate_in = inside 1 max_rate rate e in
       cells_sound t sound (grid t.rows t.columns (new_cell rules t rate)) (length_grid t.rows t.columns (new_cell rules t rate))
-      (λ r c p q. subst Ranged (sym (grid_at t.rows t.columns (new_cell rules t rate) r c p q)) (new_ranged rules friction (cell_at t r c) (face t r c) (span t rate) rate (sound.ranged r c p q) rate_in.0 rate_in.1 (brim r c p q)))
+      (λ r c p q. rw (grid_at t.rows t.columns (new_cell rules t rate) r c p q) (new_ranged rules friction (cell_at t r c) (face t r c) (span t rate) rate (sound.ranged r c p q) rate_in.0 rate_in.1 (brim r c p q)))
       (λ r c p q. ap (λ (k : Cell). k.bed) (grid_at t.rows t.columns (new_cell rules t rate) r c p q))
 
   accepted_sound : (b : Book) (x : Call) → SoundBook b → SoundAt (stage_of x) b.table → NoneThere (faults rules b x) → SoundBook (accepted rules b x).book
   accepted_sound b (Prepare rows columns width) h s n =
       (blank_sound rows columns width n.0, refl)
-  accepted_sound b (Lay row column bed depth) h s n = (lay_sound b.table s.0 s.1 row column bed depth (bed_inside bed n.1.0) (ltb-false max_depth depth n.1.1.0), s.1)
+  accepted_sound b (Lay row column bed depth) h s n = (lay_sound b.table s.0 s.1 row column bed depth (grind (arith, ints, nat_tests, n.1.0)) (ltb-false max_depth depth n.1.1.0), s.1)
   accepted_sound b Opening h s n = open_sound b.table s.0
   accepted_sound b (Step rate) h s n = step_sound b.table s rate n.0 (no_place b.table (over_brim rules b.table rate) n.1.1.0)
   accepted_sound b (Rain amount) h s n =

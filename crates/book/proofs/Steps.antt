@@ -1,5 +1,5 @@
 -- One step: no cell gives more water than it has, and what a step, rain or soaking makes of a cell is ranged.
-use Rattle.std.proofs.Common.{◌≡◌, ℕ, ◌+◌, ◌-◌, ◌*◌, ◌<◌, ◌≤◌, min, Bool, false, ltb, ℤ, pos, ◌*ℤ◌, neg_ℤ, nat_abs, refl, ap, ◌∙◌, ⊎_elim, arith}
+use Rattle.std.proofs.Common.{◌≡◌, ℕ, ◌+◌, ◌-◌, ◌*◌, ◌<◌, ◌≤◌, min, Bool, false, ltb, ℤ, pos, ◌*ℤ◌, neg_ℤ, nat_abs, refl, ⊎_elim, arith}
 use Rattle.std.proofs.lemmas.Bool.{ltb-false, lt-ltb, le-ltb, cases_lt}
 use Rattle.std.proofs.lemmas.Bool.Decides.{nat_tests}
 use Rattle.book.specs.declared.cell.Cell.{Cell}
@@ -44,8 +44,7 @@ module _ (rules : Rules) (flux : LawfulFlux rules.water rules.push) where
 pub stepped_exact : (rules : Rules) (t : Table) (rate r c : ℕ) → r < t.rows → c < t.columns → leaving rules t rate r c ≤ (cell_at t r c).depth →
     (cell_at (stepped rules t rate) r c).depth + leaving rules t rate r c ≡ (cell_at t r c).depth + arriving rules t rate r c
 stepped_exact rules t rate r c p q h =
-    ap (λ (k : Cell). k.depth + leaving rules t rate r c) (grid_at t.rows t.columns (new_cell rules t rate) r c p q)
-    ∙ omega arith
+    rw (grid_at t.rows t.columns (new_cell rules t rate) r c p q) (omega arith)
 
 -- ---- the brim
 

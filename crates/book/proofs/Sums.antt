@@ -121,10 +121,7 @@ telescope : (n : ℕ) (ai ao li lo : ℕ → ℕ)
     → sum_below (suc n) (λ k. ai k + ao k) + (li 0 + lo n) ≡ sum_below (suc n) (λ k. li k + lo k) + (ai 0 + ao n)
 telescope zero ai ao li lo h g = omega arith
 telescope (suc n) ai ao li lo h g =
-    let before = telescope n ai ao li lo (λ k b. h k (omega arith)) (λ k b. g k (omega arith)) in
-    let x : ai (suc n) ≡ lo n = h n (omega arith) in
-    let y : li (suc n) ≡ ao n = g n (omega arith) in
-    omega arith
+    omega (arith, telescope n ai ao li lo (λ k b. h k (omega arith)) (λ k b. g k (omega arith)), h n (omega arith), g n (omega arith))
 
 row_cancels : (n : ℕ) → 1 ≤ n → (ai ao li lo : ℕ → ℕ)
     → ((k : ℕ) → suc k < n → ai (suc k) ≡ lo k) → ((k : ℕ) → suc k < n → li (suc k) ≡ ao k)

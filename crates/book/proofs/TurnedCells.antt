@@ -66,8 +66,7 @@ module _ (rules : Rules) (flux : LawfulFlux rules.water rules.push) where
 
 all_turned : (τ : Turn) (f g : Hand → ℕ) → ((hand : Hand) → f hand ≡ g (turned_hand τ hand)) → all_hands f ≡ all_hands g
 all_turned EastWest f g h = omega (arith, h West, h East, h South, h North)
-all_turned SouthNorth f g h = omega (arith, h West, h East, h South, h North)
-all_turned RowsColumns f g h = omega (arith, h West, h East, h South, h North)
+all_turned τ f g h = omega (arith, h West, h East, h South, h North)
 
 pub depth_kept : (τ : Turn) (k : Cell) → (turned_cell τ k).depth ≡ k.depth
 depth_kept EastWest k = refl

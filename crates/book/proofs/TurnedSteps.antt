@@ -2,7 +2,6 @@
 use Rattle.std.proofs.Common.{◌≡◌, ℕ, ◌+◌, ◌*◌, ◌<◌, ◌≤◌, false, ltb, sym, ap, ◌∙◌, ap₂}
 use mathlib.Core.Path.{fun_ext}
 use Rattle.book.specs.declared.side.Hand.{Hand}
-use Rattle.book.specs.declared.side.Hand.TheVariants.{West, East, South, North}
 use Rattle.book.specs.declared.account.Passed.{Passed}
 use Rattle.book.specs.declared.account.Account.{Account}
 use Rattle.rules.specs.Flux.{LawfulFlux}
@@ -81,12 +80,6 @@ module _ (rules : Rules) (flux : LawfulFlux rules.water rules.push) (τ : Turn) 
 
 pub step_account : (rules : Rules) → LawfulFlux rules.water rules.push → (τ : Turn) (t : Table) → Sound t → (rate : ℕ) (a : Account) →
     account_after_step rules (turned_table τ t) rate (turned_account τ a) ≡ turned_account τ (account_after_step rules t rate a)
-step_account rules flux EastWest t sound rate a =
-    let by = passed_turned rules flux EastWest t sound rate in
-    λ i. record { poured = a.poured; rain = a.rain; soak = a.soak; west = by West a.east i; east = by East a.west i; south = by South a.south i; north = by North a.north i }
-step_account rules flux SouthNorth t sound rate a =
-    let by = passed_turned rules flux SouthNorth t sound rate in
-    λ i. record { poured = a.poured; rain = a.rain; soak = a.soak; west = by West a.west i; east = by East a.east i; south = by South a.north i; north = by North a.south i }
-step_account rules flux RowsColumns t sound rate a =
-    let by = passed_turned rules flux RowsColumns t sound rate in
-    λ i. record { poured = a.poured; rain = a.rain; soak = a.soak; west = by West a.south i; east = by East a.north i; south = by South a.west i; north = by North a.east i }
+step_account rules flux EastWest t sound rate a = simp (passed_turned rules flux EastWest t sound rate)
+step_account rules flux SouthNorth t sound rate a = simp (passed_turned rules flux SouthNorth t sound rate)
+step_account rules flux RowsColumns t sound rate a = simp (passed_turned rules flux RowsColumns t sound rate)

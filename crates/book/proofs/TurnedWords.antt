@@ -52,15 +52,11 @@ rained_turned EastWest n k = refl
 rained_turned τ n k = refl
 
 soaked_flow : (h d : ℕ) (q : ℤ) → thinned h (pos h *ℤ velocity (neg_ℤ q) d) ≡ neg_ℤ (thinned h (pos h *ℤ velocity q d))
-soaked_flow h d q =
-    thinned_neg h (pos h *ℤ velocity (neg_ℤ q) d) (pos h *ℤ velocity q d)
-    (λ _. rw (velocity_neg, mul_neg))
+soaked_flow h d q = thinned_neg h _ _ (λ _. rw (velocity_neg, mul_neg))
 
 pub soaked_turned : (τ : Turn) (n : ℕ) (k : Cell) → soaked n (turned_cell τ k) ≡ turned_cell τ (soaked n k)
-soaked_turned EastWest n k =
-    rw (soaked_flow (k.depth - min k.depth n) k.depth k.east)
-soaked_turned SouthNorth n k =
-    rw (soaked_flow (k.depth - min k.depth n) k.depth k.north)
+soaked_turned EastWest n k = rw (soaked_flow (k.depth - min k.depth n) k.depth k.east)
+soaked_turned SouthNorth n k = rw (soaked_flow (k.depth - min k.depth n) k.depth k.north)
 soaked_turned RowsColumns n k = refl
 
 -- ---- what a call names
