@@ -11,7 +11,7 @@ use Rattle.rules.specs.Flux.{LawfulFlux}
 use Rattle.rules.specs.Friction.{LawfulFriction}
 use Rattle.book.specs.Faces.{Face}
 use Rattle.book.specs.Step.{Rules, gives, takes}
-use Rattle.book.specs.Sheets.{Table, cell_at, face, span, leaves, arrives, sum_places, with_cells, standing, too_slow, stepped}
+use Rattle.book.specs.Sheets.{Table, cell_at, face, span, sum_places, with_cells, standing, too_slow, stepped}
 use Rattle.book.specs.Accounts.{account_after_step, soak_more}
 use Rattle.book.specs.Calls.{Book, Stage, serving, closed, soaked, rained, at_rest, stage_of, faults, accepted, empty_book, soaked_away, book_after}
 use Rattle.book.proofs.Sound.{Sound, SoundAt, SoundBook}
@@ -69,9 +69,7 @@ module _ (rules : Rules) (flux : LawfulFlux rules.water rules.push) (t : Table) 
       omega (
         arith,
         sheet_balance t.rows t.columns (rows_some t sound) (columns_some t sound)
-            (λ r c. (cell_at t r c).depth) (λ r c. (cell_at (stepped rules t rate) r c).depth)
-            (λ r c. arrives rules t rate r c West) (λ r c. arrives rules t rate r c East) (λ r c. arrives rules t rate r c South) (λ r c. arrives rules t rate r c North)
-            (λ r c. leaves rules t rate r c West) (λ r c. leaves rules t rate r c East) (λ r c. leaves rules t rate r c South) (λ r c. leaves rules t rate r c North)
+            _ _ _ _ _ _ _ _ _ _
             (λ r c p q. stepped_exact rules t rate r c p q (not_overdrawn rules flux t sound rate paced r c p q))
             (λ r c p q. low_takes rules (span t rate) _ _ (east_face t r c q)) (λ r c p q. low_gives rules (span t rate) _ _ (east_face t r c q))
             (λ c r p q. low_takes rules (span t rate) _ _ (north_face t r c q)) (λ c r p q. low_gives rules (span t rate) _ _ (north_face t r c q)),

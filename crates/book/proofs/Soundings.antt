@@ -4,8 +4,6 @@ use lib.Signed.{quot_z}
 use Rattle.std.proofs.lemmas.Bool.{eqb-true, cond_both}
 use Rattle.book.specs.declared.side.Hand.{Hand}
 use Rattle.book.specs.declared.side.Hand.TheVariants.{West, East}
-use Rattle.book.specs.declared.cell.Cell.{Cell}
-use Rattle.book.specs.declared.account.Passed.{Passed}
 use Rattle.book.specs.declared.call.Call.{Call}
 use Rattle.book.specs.declared.call.Call.TheVariants.{Step, ChangeSide, AskCell, AskAccount, AskSlowestRate}
 use Rattle.book.specs.declared.refusal.Refusal.TheVariants.{OutOfStage, Rate, TooSlow, Brim, FullAccount, NoRate}
@@ -20,7 +18,6 @@ use Rattle.rules.specs.Side.{face_pace, pace_of, discharge, momentum}
 use Rattle.rules.specs.Weed.{weed_slowed}
 use Rattle.book.specs.Ranges.{max_rate, rate_amiss}
 use Rattle.book.specs.Numbers.{share, film, friction_speed}
-use Rattle.book.specs.Faces.{Face}
 use Rattle.book.specs.Step.{Rules, cell_after}
 use Rattle.book.specs.Sheets.{Table, some_place, some_hand, cell_at, side_at, face, span, new_cell, brim_passed}
 use Rattle.book.specs.Accounts.{nothing_passed, passed_by, account_after_step, full}
@@ -105,17 +102,9 @@ slowest_step_quick : (b : Book) (rate : ℕ) → replies smooth b (AskSlowestRat
 unfolding rusanov_water rusanov_push
 slowest_step_quick b rate = ap (λ m. (slowest_at m b).reply ∷ (step_at m (slowest_at m b).book rate).reply ∷ []) pace_quick
 
-cell_quick : (c : ℕ) (cell : Cell) (faces : Hand → Face) (k rate : ℕ) → cell_after (rusanov_over c) cell faces k rate ≡ cell_after (rusanov_at c quick_pace) cell faces k rate
+rules_quick : (c : ℕ) → rusanov_over c ≡ rusanov_at c quick_pace
 unfolding rusanov_water rusanov_push
-cell_quick c cell faces k rate = ap (λ m. cell_after (rusanov_at c m) cell faces k rate) pace_quick
-
-new_quick : (t : Table) (rate r c : ℕ) → new_cell smooth t rate r c ≡ new_cell (rusanov_at 0 quick_pace) t rate r c
-unfolding rusanov_water rusanov_push
-new_quick t rate r c = ap (λ m. new_cell (rusanov_at 0 m) t rate r c) pace_quick
-
-passed_quick : (t : Table) (rate : ℕ) (hand : Hand) (p : Passed) → passed_by smooth t rate hand p ≡ passed_by (rusanov_at 0 quick_pace) t rate hand p
-unfolding rusanov_water rusanov_push
-passed_quick t rate hand p = ap (λ m. passed_by (rusanov_at 0 m) t rate hand p) pace_quick
+rules_quick c = ap (rusanov_at c) pace_quick
 
 -- ---- the still pair
 
@@ -180,8 +169,8 @@ further_soundings =
       fed_west = ap four_done (step_quick (book_after smooth (one_cell 1000 0 (ChangeSide 0 3 (pos 1000) 400 ∷ []))) 3 (AskCell 0 0 ∷ AskAccount ∷ []));
       fed_south = ap four_done (step_quick (book_after smooth (one_cell 1000 0 (ChangeSide 2 3 (pos 1000) 400 ∷ []))) 3 (AskCell 0 0 ∷ AskAccount ∷ []));
       kinds = (refl, refl, refl, refl);
-      outlet_step = (new_quick outlet 3 0 0, passed_quick outlet 3 East nothing_passed);
-      stream_step = cell_quick 1000 (streaming 1000 (pos 7000) (pos 400000)) stream 10000 10;
+      outlet_step = (ap (λ rules. new_cell rules outlet 3 0 0) (rules_quick 0), ap (λ rules. passed_by rules outlet 3 East nothing_passed) (rules_quick 0));
+      stream_step = ap (λ rules. cell_after rules (streaming 1000 (pos 7000) (pos 400000)) stream 10000 10) (rules_quick 1000);
     }
 
 pub limits : Limits

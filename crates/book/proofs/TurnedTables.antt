@@ -100,7 +100,7 @@ bed_kept : (τ : Turn) (k : Cell) → (turned_cell τ k).bed ≡ k.bed
 bed_kept EastWest k = refl
 bed_kept τ k = refl
 
-laid_kept : (τ : Turn) (k : Cell) → (turned_cell τ k).laid ≡ k.laid
+pub laid_kept : (τ : Turn) (k : Cell) → (turned_cell τ k).laid ≡ k.laid
 laid_kept EastWest k = refl
 laid_kept τ k = refl
 
@@ -111,12 +111,6 @@ no_cell_turned τ = refl
 module _ (τ : Turn) (t : Table) where
   pub depth_came : (r c : ℕ) → r < high τ t → c < wide τ t → (cell_at (turned_table τ t) r c).depth ≡ (came_cell τ t r c).depth
   depth_came r c h k = rw (cell_turned τ t r c h k, depth_kept)
-
-  bed_came : (r c : ℕ) → r < high τ t → c < wide τ t → (cell_at (turned_table τ t) r c).bed ≡ (came_cell τ t r c).bed
-  bed_came r c h k = rw (cell_turned τ t r c h k, bed_kept)
-
-  pub laid_came : (r c : ℕ) → r < high τ t → c < wide τ t → (cell_at (turned_table τ t) r c).laid ≡ (came_cell τ t r c).laid
-  laid_came r c h k = rw (cell_turned τ t r c h k, laid_kept)
 
   pub standing_turned : standing (turned_table τ t) ≡ standing t
   standing_turned = sum_turned τ t.rows t.columns (λ r c. (cell_at (turned_table τ t) r c).depth) (λ r c. (cell_at t r c).depth) depth_came
@@ -217,5 +211,5 @@ sides_set τ hand xs x e = absurd (omega arith)
 pub held_turned : (τ : Turn) (t : Table) → Sound t → (hand : Hand) (x : Side) → held_over (turned_table τ t) hand x ≡ held_over t (turned_hand τ hand) x
 held_turned τ t sound hand (Held a) =
     side_turned_by some_below some_same some_mirrored t (rows_some t sound) (columns_some t sound) τ hand (λ r c. ltb max_depth (held_depth a (cell_at (turned_table τ t) r c).bed)) (λ r c. ltb max_depth (held_depth a (cell_at t r c).bed))
-    (λ r c h k. ap (λ b. ltb max_depth (held_depth a b)) (bed_came τ t r c h k))
+    (λ r c h k. rw (cell_turned τ t r c h k, bed_kept))
 held_turned τ t sound hand x = refl
