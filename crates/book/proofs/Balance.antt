@@ -1,19 +1,20 @@
 -- The account adds up: all water that stands, soaked away or left is what was poured, rained or came in.
-use Rattle.std.proofs.Common.{◌≡◌, ℕ, suc, ◌+◌, ◌<◌, min, false, List, map, refl, subst, ⊎_elim, add-one, arith}
+use Rattle.std.proofs.Common.{inl, inr, ◌≡◌, ℕ, suc, ◌+◌, ◌<◌, min, false, List, map, refl, subst, add-one, arith}
 use lib.IntN.{neg_ℤ-neg_ℤ}
 use Rattle.std.proofs.lemmas.Bool.{lt-ltb}
 use Rattle.book.specs.declared.cell.Cell.{Cell}
 use Rattle.book.specs.declared.side.Hand.TheVariants.{West, East, South, North}
 use Rattle.book.specs.declared.account.Account.{Account}
 use Rattle.book.specs.declared.call.Call.{Call}
-use Rattle.book.specs.declared.call.Call.TheVariants.{Open as Opening, Step, Rain, Soak}
+use Rattle.book.specs.declared.call.Call.TheVariants.{Prepare, Lay, Open as Opening, Step, Rain, Soak}
 use Rattle.rules.specs.Flux.{LawfulFlux}
+use Rattle.book.specs.declared.reply.Reply.TheVariants.{Done}
 use Rattle.rules.specs.Friction.{LawfulFriction}
 use Rattle.book.specs.Faces.{Face}
 use Rattle.book.specs.Step.{Rules, gives, takes}
 use Rattle.book.specs.Sheets.{Table, cell_at, face, span, sum_places, with_cells, standing, too_slow, stepped}
 use Rattle.book.specs.Accounts.{account_after_step, soak_more}
-use Rattle.book.specs.Calls.{Book, Stage, serving, closed, soaked, rained, at_rest, stage_of, faults, accepted, empty_book, soaked_away, book_after}
+use Rattle.book.specs.Calls.{on_page, Book, serving, soaked, rained, at_rest, stage_of, faults, accepted, empty_book, soaked_away, book_after}
 use Rattle.book.proofs.Sound.{Sound, SoundAt, SoundBook}
 use Rattle.book.specs.Laws.{Balanced, Opened}
 use Rattle.book.proofs.Sums.{sheet_balance, total_same, total_add, total_even}
@@ -41,20 +42,12 @@ module _ (rules : Rules) (k : ℕ) (f g : Face) (e : f ≡ g) where
 
 -- ---- the account after a call
 
-abbrev BalancedAt : Stage → Table → Account → Type 0
-BalancedAt serving t a = Balanced (record { stage = serving; table = t; account = a })
-BalancedAt closed t a = Balanced (record { stage = closed; table = t; account = a })
-BalancedAt s t a = Unit {0}
-
-abbrev BalancedBook : Book → Type 0
-BalancedBook b = BalancedAt b.stage b.table b.account
-
 -- the water that stands after every cell is changed alike
 standing_map : (t : Table) → Sound t → (f : Cell → Cell) → standing (with_cells t (map f t.cells)) ≡ sum_places t (λ r c. (f (cell_at t r c)).depth)
 standing_map t sound f =
     total_same t.rows t.columns _ (λ r c. (f (cell_at t r c)).depth) (λ r c p q. rw (map_at t.rows t.columns t.cells f r c sound.sized p q))
 
-soak_balanced : (t : Table) → Sound t → (a : Account) (n : ℕ) → BalancedAt serving t a → BalancedAt serving (with_cells t (map (soaked n) t.cells)) (soak_more a (soaked_away t n))
+soak_balanced : (t : Table) → Sound t → (a : Account) (n : ℕ) → Balanced (on_page serving t a Done).book → Balanced (on_page serving (with_cells t (map (soaked n) t.cells)) (soak_more a (soaked_away t n)) Done).book
 soak_balanced t sound a n h =
     omega (
       arith,
@@ -64,7 +57,7 @@ soak_balanced t sound a n h =
     )
 
 module _ (rules : Rules) (flux : LawfulFlux rules.water rules.push) (t : Table) (sound : Sound t) (rate : ℕ) (paced : too_slow t rate ≡ false) where
-  step_balanced : (a : Account) → BalancedAt serving t a → BalancedAt serving (stepped rules t rate) (account_after_step rules t rate a)
+  step_balanced : (a : Account) → Balanced (on_page serving t a Done).book → Balanced (on_page serving (stepped rules t rate) (account_after_step rules t rate a) Done).book
   step_balanced a h =
       omega (
         arith,
@@ -76,19 +69,23 @@ module _ (rules : Rules) (flux : LawfulFlux rules.water rules.push) (t : Table) 
       )
 
 module _ (rules : Rules) (flux : LawfulFlux rules.water rules.push) (friction : LawfulFriction rules.slowed) where
-  accepted_balanced : (b : Book) (x : Call) → BalancedBook b → SoundAt (stage_of x) b.table → BalancedAt (stage_of x) b.table b.account → NoneThere (faults rules b x) → BalancedBook (accepted rules b x).book
-  accepted_balanced b Opening h s g n = omega (arith, standing_map b.table s.0 at_rest)
-  accepted_balanced b (Step rate) h s g n = step_balanced rules flux b.table s rate n.1.0 b.account g
-  accepted_balanced b (Rain amount) h s g n = omega (arith, standing_map b.table s (rained amount), total_add b.table.rows b.table.columns (λ r c. (cell_at b.table r c).depth) (λ r c. amount), total_even b.table.rows b.table.columns amount)
-  accepted_balanced b (Soak amount) h s g n = soak_balanced b.table s b.account amount g
-  accepted_balanced b x h s g n = assumption (g, h)
+  accepted_balanced : (b : Book) (x : Call) → SoundAt (stage_of x) b.table → b.stage ≡ stage_of x → (Opened b → Balanced b) → NoneThere (faults rules b x) → Opened (accepted rules b x).book → Balanced (accepted rules b x).book
+  accepted_balanced b (Prepare rows columns width) s e h n (inl o) = cc
+  accepted_balanced b (Prepare rows columns width) s e h n (inr o) = cc
+  accepted_balanced b (Lay row column bed depth) s e h n (inl o) = cc
+  accepted_balanced b (Lay row column bed depth) s e h n (inr o) = cc
+  accepted_balanced b Opening s e h n o = omega (arith, standing_map b.table s.0 at_rest)
+  accepted_balanced b (Step rate) s e h n o = step_balanced rules flux b.table s rate n.1.0 b.account (h (inl e))
+  accepted_balanced b (Rain amount) s e h n o =
+      omega (arith, h (inl e), standing_map b.table s (rained amount), total_add b.table.rows b.table.columns (λ r c. (cell_at b.table r c).depth) (λ r c. amount), total_even b.table.rows b.table.columns amount)
+  accepted_balanced b (Soak amount) s e h n o = soak_balanced b.table s b.account amount (h (inl e))
+  accepted_balanced b x s e h n o = h (inl e)
+
+  none_opened : Opened empty_book → Balanced empty_book
+  none_opened (inl o) = cc
+  none_opened (inr o) = cc
 
   pub balanced : (calls : List Call) → Opened (book_after rules calls) → Balanced (book_after rules calls)
-  balanced calls e = ⊎_elim at at e
-    where
-      at : {s : Stage} → (book_after rules calls).stage ≡ s → BalancedAt s (book_after rules calls).table (book_after rules calls).account
-      at e =
-          subst (λ z. BalancedAt z (book_after rules calls).table (book_after rules calls).account) e
-          (after_book rules (λ b. SoundBook b × BalancedBook b)
-          (λ b x h e n. (sound_kept rules friction b x h.0 e n, accepted_balanced b x h.1 (subst (λ z. SoundAt z b.table) e h.0) (subst (λ z. BalancedAt z b.table b.account) e h.1) n))
-          empty_book calls (refl, tt)).1
+  balanced calls =
+      (after_book rules (λ b. SoundBook b × (Opened b → Balanced b))
+      (λ b x h e n. (sound_kept rules friction b x h.0 e n, accepted_balanced b x (subst (λ z. SoundAt z b.table) e h.0) e h.1 n)) empty_book calls (refl, none_opened)).1
