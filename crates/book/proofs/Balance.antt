@@ -13,8 +13,8 @@ use Rattle.rules.specs.Friction.{LawfulFriction}
 use Rattle.book.specs.Faces.{Face}
 use Rattle.book.specs.Step.{Rules, gives, takes}
 use Rattle.book.specs.Sheets.{Table, cell_at, face, span, sum_places, with_cells, standing, too_slow, stepped}
-use Rattle.book.specs.Accounts.{account_after_step, soak_more}
-use Rattle.book.specs.Calls.{on_page, Book, serving, soaked, rained, at_rest, stage_of, faults, accepted, empty_book, soaked_away, book_after}
+use Rattle.book.specs.Accounts.{account_after_step}
+use Rattle.book.specs.Calls.{on_page, Book, serving, soaked, rained, at_rest, stage_of, faults, accepted, empty_book, book_after}
 use Rattle.book.proofs.Sound.{Sound, SoundAt, SoundBook}
 use Rattle.book.specs.Laws.{Balanced, Opened}
 use Rattle.book.proofs.Sums.{sheet_balance, total_same, total_add, total_even}
@@ -47,15 +47,6 @@ standing_map : (t : Table) → Sound t → (f : Cell → Cell) → standing (wit
 standing_map t sound f =
     total_same t.rows t.columns _ (λ r c. (f (cell_at t r c)).depth) (λ r c p q. rw (map_at t.rows t.columns t.cells f r c sound.sized p q))
 
-soak_balanced : (t : Table) → Sound t → (a : Account) (n : ℕ) → Balanced (on_page serving t a Done).book → Balanced (on_page serving (with_cells t (map (soaked n) t.cells)) (soak_more a (soaked_away t n)) Done).book
-soak_balanced t sound a n h =
-    omega (
-      arith,
-      standing_map t sound (soaked n),
-      total_add t.rows t.columns (λ r c. (soaked n (cell_at t r c)).depth) (λ r c. min (cell_at t r c).depth n),
-      total_same t.rows t.columns (λ r c. (soaked n (cell_at t r c)).depth + min (cell_at t r c).depth n) (λ r c. (cell_at t r c).depth) (λ r c p q. omega arith),
-    )
-
 module _ (rules : Rules) (flux : LawfulFlux rules.water rules.push) (t : Table) (sound : Sound t) (rate : ℕ) (paced : too_slow t rate ≡ false) where
   step_balanced : (a : Account) → Balanced (on_page serving t a Done).book → Balanced (on_page serving (stepped rules t rate) (account_after_step rules t rate a) Done).book
   step_balanced a h =
@@ -78,7 +69,14 @@ module _ (rules : Rules) (flux : LawfulFlux rules.water rules.push) (friction : 
   accepted_balanced b (Step rate) s e h n o = step_balanced rules flux b.table s rate n.1.0 b.account (h (inl e))
   accepted_balanced b (Rain amount) s e h n o =
       omega (arith, h (inl e), standing_map b.table s (rained amount), total_add b.table.rows b.table.columns (λ r c. (cell_at b.table r c).depth) (λ r c. amount), total_even b.table.rows b.table.columns amount)
-  accepted_balanced b (Soak amount) s e h n o = soak_balanced b.table s b.account amount (h (inl e))
+  accepted_balanced b (Soak amount) s e h n o =
+      omega (
+        arith,
+        h (inl e),
+        standing_map b.table s (soaked amount),
+        total_add b.table.rows b.table.columns (λ r c. (soaked amount (cell_at b.table r c)).depth) (λ r c. min (cell_at b.table r c).depth amount),
+        total_same b.table.rows b.table.columns (λ r c. (soaked amount (cell_at b.table r c)).depth + min (cell_at b.table r c).depth amount) (λ r c. (cell_at b.table r c).depth) (λ r c p q. omega arith),
+      )
   accepted_balanced b x s e h n o = h (inl e)
 
   none_opened : Opened empty_book → Balanced empty_book

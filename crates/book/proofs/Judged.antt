@@ -43,11 +43,8 @@ module _ (rules : Rules) where
   after_book P g b (x ∷ xs) h = after_book P g (answer rules b x).book xs (answer_book P b x h (g b x h))
 
   -- a call that is done fits the stage and has no fault, and the book is what it makes of it
-  pub answer_done : (b : Book) (x : Call) → (answer rules b x).reply ≡ Done → (b.stage ≡ stage_of x) × NoneThere (faults rules b x)
-  answer_done b x = answer_page (λ p. p.reply ≡ Done → (b.stage ≡ stage_of x) × NoneThere (faults rules b x)) b x (λ why e. cc) (λ s n _. (s, n))
-
-  pub answer_accepted : (b : Book) (x : Call) → (answer rules b x).reply ≡ Done → (answer rules b x).book ≡ (accepted rules b x).book
-  answer_accepted b x = answer_page (λ p. p.reply ≡ Done → p.book ≡ (accepted rules b x).book) b x (λ why e. cc) (λ _ _ _. refl)
+  pub answer_done : (b : Book) (x : Call) → (answer rules b x).reply ≡ Done → (b.stage ≡ stage_of x) × NoneThere (faults rules b x) × ((answer rules b x).book ≡ (accepted rules b x).book)
+  answer_done b x = answer_page (λ p. p.reply ≡ Done → (b.stage ≡ stage_of x) × NoneThere (faults rules b x) × (p.book ≡ (accepted rules b x).book)) b x (λ why e. cc) (λ s n _. (s, n, refl))
 
   -- ---- a refusal changes nothing
 

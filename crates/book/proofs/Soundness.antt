@@ -25,7 +25,7 @@ use Rattle.std.proofs.lemmas.Bool.Decides.{nat_tests}
 use Rattle.book.proofs.Sums.{none_below, no_place}
 use Rattle.book.proofs.Grids.{grid_at, length_grid, map_at, place_below}
 use Rattle.book.proofs.Neighbours.{hand_there, number_below, border_row, border_column}
-use Rattle.book.proofs.Judged.{NoneThere, answer_book, after_book, answer_done, answer_accepted}
+use Rattle.book.proofs.Judged.{NoneThere, answer_book, after_book, answer_done}
 use Rattle.book.proofs.Steps.{still_ranged, soaked_ranged, rained_ranged, new_ranged, not_overdrawn, stepped_exact}
 
 -- ---- cells changed, beds kept
@@ -181,5 +181,5 @@ module _ (rules : Rules) (flux : LawfulFlux rules.water rules.push) (b : Book) (
 
   pub step_exact : (cell_at (answer rules b (Step rate)).book.table r c).depth + leaving rules b.table rate r c ≡ (cell_at b.table r c).depth + arriving rules b.table rate r c
   step_exact =
-      ap (λ (n : Book). (cell_at n.table r c).depth + leaving rules b.table rate r c) (answer_accepted rules b (Step rate) done)
+      ap (λ (n : Book). (cell_at n.table r c).depth + leaving rules b.table rate r c) (answer_done rules b (Step rate) done).2
       ∙ stepped_exact rules b.table rate r c on.0 on.1 step_overdraws_none

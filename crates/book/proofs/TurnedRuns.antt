@@ -39,28 +39,23 @@ module _ (rules : Rules) (flux : LawfulFlux rules.water rules.push) (friction : 
   -- ---- one turn of a list of calls
 
   module _ (τ : Turn) (rows columns : ℕ) where
-    books_from : (calls : List Call) (b : Book) → SoundBook b → OfSize rows columns (after rules b calls) → after rules (turned_book τ b) (map (turned_call τ rows columns) calls) ≡ turned_book τ (after rules b calls)
-    books_from [] b sound s = refl
-    books_from (x ∷ xs) b sound s =
-        ap (λ (p : Page). after rules p.book (map (turned_call τ rows columns) xs)) (answer_turned τ rows columns b (size_before rules rows columns (x ∷ xs) b s) rules flux friction sound x)
-        ∙ books_from xs (answer rules b x).book (answer_sound rules friction b x sound) s
+    -- from a book and the turned book on
+    run : (calls : List Call) (b b' : Book) → b' ≡ turned_book τ b → SoundBook b → OfSize rows columns (after rules b calls) →
+        (after rules b' (map (turned_call τ rows columns) calls) ≡ turned_book τ (after rules b calls)) × (replies rules b' (map (turned_call τ rows columns) calls) ≡ map (turned_reply τ) (replies rules b calls))
+    run [] b b' e sound s = (e, refl)
+    run (x ∷ xs) b b' e sound s =
+        let one = ap (λ c. answer rules c (turned_call τ rows columns x)) e ∙ answer_turned τ rows columns b (size_before rules rows columns (x ∷ xs) b s) rules flux friction sound x in
+        let rest = run xs (answer rules b x).book _ (ap (λ (p : Page). p.book) one) (answer_sound rules friction b x sound) s in
+        (rest.0, ap₂ (λ r rs. r ∷ rs) (ap (λ (p : Page). p.reply) one) rest.1)
 
-    replies_from : (calls : List Call) (b : Book) → SoundBook b → OfSize rows columns (after rules b calls) → replies rules (turned_book τ b) (map (turned_call τ rows columns) calls) ≡ map (turned_reply τ) (replies rules b calls)
-    replies_from [] b sound s = refl
-    replies_from (x ∷ xs) b sound s =
-        ap (λ (p : Page). p.reply ∷ replies rules p.book (map (turned_call τ rows columns) xs)) (answer_turned τ rows columns b (size_before rules rows columns (x ∷ xs) b s) rules flux friction sound x)
-        ∙ ap (λ rs. turned_reply τ (answer rules b x).reply ∷ rs) (replies_from xs (answer rules b x).book (answer_sound rules friction b x sound) s)
-
-    one_turn_books : (calls : List Call) → OfSize rows columns (book_after rules calls) → book_after rules (map (turned_call τ rows columns) calls) ≡ turned_book τ (book_after rules calls)
-    one_turn_books calls s = ap (λ b. after rules b (map (turned_call τ rows columns) calls)) (first_turned τ) ∙ books_from calls empty_book refl s
-
-    one_turn_replies : (calls : List Call) → OfSize rows columns (book_after rules calls) → replies_to rules (map (turned_call τ rows columns) calls) ≡ map (turned_reply τ) (replies_to rules calls)
-    one_turn_replies calls s = ap (λ b. replies rules b (map (turned_call τ rows columns) calls)) (first_turned τ) ∙ replies_from calls empty_book refl s
+    one_turn : (calls : List Call) → OfSize rows columns (book_after rules calls) →
+        (book_after rules (map (turned_call τ rows columns) calls) ≡ turned_book τ (book_after rules calls)) × (replies_to rules (map (turned_call τ rows columns) calls) ≡ map (turned_reply τ) (replies_to rules calls))
+    one_turn calls s = run calls empty_book empty_book (first_turned τ) refl s
 
     size_after_turn : (calls : List Call) → OfSize rows columns (book_after rules calls) →
         OfSize (turned_rows τ rows columns) (turned_columns τ rows columns) (book_after rules (map (turned_call τ rows columns) calls))
     size_after_turn calls s =
-        subst (OfSize (turned_rows τ rows columns) (turned_columns τ rows columns)) (sym (one_turn_books calls s)) (of_size_turned τ rows columns (book_after rules calls) s)
+        subst (OfSize (turned_rows τ rows columns) (turned_columns τ rows columns)) (sym (one_turn calls s).0) (of_size_turned τ rows columns (book_after rules calls) s)
 
   -- ---- the two laws
 
@@ -68,10 +63,10 @@ module _ (rules : Rules) (flux : LawfulFlux rules.water rules.push) (friction : 
   turned_books_alike [] rows columns calls s = refl
   turned_books_alike (τ ∷ τs) rows columns calls s =
       turned_books_alike τs (turned_rows τ rows columns) (turned_columns τ rows columns) (map (turned_call τ rows columns) calls) (size_after_turn τ rows columns calls s)
-      ∙ ap (turned_books τs) (one_turn_books τ rows columns calls s)
+      ∙ ap (turned_books τs) (one_turn τ rows columns calls s).0
 
   pub turned_replies_alike : (τs : List Turn) (rows columns : ℕ) (calls : List Call) → OfSize rows columns (book_after rules calls) → replies_to rules (turned_calls τs rows columns calls) ≡ turned_replies τs (replies_to rules calls)
   turned_replies_alike [] rows columns calls s = refl
   turned_replies_alike (τ ∷ τs) rows columns calls s =
       turned_replies_alike τs (turned_rows τ rows columns) (turned_columns τ rows columns) (map (turned_call τ rows columns) calls) (size_after_turn τ rows columns calls s)
-      ∙ ap (turned_replies τs) (one_turn_replies τ rows columns calls s)
+      ∙ ap (turned_replies τs) (one_turn τ rows columns calls s).1
