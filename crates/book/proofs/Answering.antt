@@ -1,6 +1,5 @@
 -- How a call comes to be answered: refused for a fault that is there, where those before it are not, or accepted where none is.
 use Rattle.std.proofs.Common.{◌≡◌, true, false, not, List, [], ◌∷◌, ◌++◌, sym, refl, ap, ◌∙◌}
-use Rattle.std.proofs.lemmas.Bool.{cond-true, cond-false}
 use Rattle.book.specs.declared.call.Call.{Call}
 use Rattle.book.specs.declared.refusal.Refusal.TheVariants.{OutOfStage}
 use Rattle.book.specs.declared.reply.Reply.TheVariants.{Refused}
@@ -10,12 +9,12 @@ use Rattle.book.specs.Answers.{Answered}
 use Rattle.book.proofs.Judged.{NoneThere}
 
 judged_there : (before : List Fault) (x : Fault) (rest : List Fault) (b : Book) (p : Page) → NoneThere before → x.there ≡ true → judged (before ++ (x ∷ rest)) b p ≡ unchanged b (Refused x.why)
-judged_there [] x rest b p n e = cond-true x.there _ _ e
-judged_there (y ∷ ys) x rest b p n e = cond-false y.there _ _ n.0 ∙ judged_there ys x rest b p n.1 e
+judged_there [] x rest b p n e = rw e
+judged_there (y ∷ ys) x rest b p n e = rw n.0 (judged_there ys x rest b p n.1 e)
 
 judged_none : (xs : List Fault) (b : Book) (p : Page) → NoneThere xs → judged xs b p ≡ p
 judged_none [] b p n = refl
-judged_none (x ∷ xs) b p n = cond-false x.there _ _ n.0 ∙ judged_none xs b p n.1
+judged_none (x ∷ xs) b p n = rw n.0 (judged_none xs b p n.1)
 
 answered_by : (rules : Rules) (b : Book) (x : Call) (p : Page) → answer rules b x ≡ p → Answered rules b x p.book p.reply
 answered_by rules b x p e = record { book = sym (ap (λ (q : Page). q.book) e); reply = sym (ap (λ (q : Page). q.reply) e) }

@@ -1,142 +1,89 @@
 -- The account adds up: all water that stands, soaked away or left is what was poured, rained or came in.
-use Rattle.std.proofs.Common.{◌≡◌, ℕ, suc, ◌+◌, ◌<◌, min, false, List, [], ◌∷◌, map, neg_ℤ, sym, refl, ap, ◌∙◌, subst, inl, inr, add-one, arith}
+use Rattle.std.proofs.Common.{inl, inr, ◌≡◌, ℕ, suc, ◌+◌, ◌<◌, min, false, List, map, refl, subst, add-one, arith}
 use lib.IntN.{neg_ℤ-neg_ℤ}
+use Rattle.std.proofs.lemmas.Bool.{lt-ltb}
 use Rattle.book.specs.declared.cell.Cell.{Cell}
-use Rattle.book.specs.declared.side.Hand.{Hand}
 use Rattle.book.specs.declared.side.Hand.TheVariants.{West, East, South, North}
 use Rattle.book.specs.declared.account.Account.{Account}
 use Rattle.book.specs.declared.call.Call.{Call}
-use Rattle.book.specs.declared.call.Call.TheVariants.{Prepare, Lay, Open as Opening, Step, Rain, Soak, ChangeSide, AskCell, AskAccount, AskStanding, AskSlowestRate, Close}
+use Rattle.book.specs.declared.call.Call.TheVariants.{Prepare, Lay, Open as Opening, Step, Rain, Soak}
 use Rattle.rules.specs.Flux.{LawfulFlux}
+use Rattle.book.specs.declared.reply.Reply.TheVariants.{Done}
 use Rattle.rules.specs.Friction.{LawfulFriction}
-use Rattle.book.specs.Numbers.{positive, trunc}
-use Rattle.book.specs.Faces.{column, meet}
-use Rattle.book.specs.Step.{Rules, water}
-use Rattle.book.specs.Sheets.{Table, cell_at, seen, face, span, leaves, arrives, sum_places, sum_side, with_cells, standing, too_slow, stepped}
-use Rattle.book.specs.Accounts.{account_after_step, rain_more, soak_more}
-use Rattle.book.specs.Calls.{Book, Stage, start, preparing, serving, closed, soaked, rained, at_rest, stage_of, faults, accepted, empty_book, answer, after, soaked_away, book_after, rained_on}
+use Rattle.book.specs.Faces.{Face}
+use Rattle.book.specs.Step.{Rules, gives, takes}
+use Rattle.book.specs.Sheets.{Table, cell_at, face, span, sum_places, with_cells, standing, too_slow, stepped}
+use Rattle.book.specs.Accounts.{account_after_step}
+use Rattle.book.specs.Calls.{on_page, Book, serving, soaked, rained, at_rest, stage_of, faults, accepted, empty_book, book_after}
 use Rattle.book.proofs.Sound.{Sound, SoundAt, SoundBook}
 use Rattle.book.specs.Laws.{Balanced, Opened}
 use Rattle.book.proofs.Sums.{sheet_balance, total_same, total_add, total_even}
 use Rattle.book.proofs.Grids.{map_at}
-use Rattle.book.proofs.Neighbours.{east_some, north_some, rows_some, columns_some}
-use Rattle.book.proofs.Judged.{NoneThere, answer_book}
+use Rattle.book.proofs.Neighbours.{rows_some, columns_some}
+use Rattle.book.proofs.Judged.{NoneThere, after_book}
 use Rattle.book.proofs.Steps.{not_overdrawn, stepped_exact}
-use Rattle.book.proofs.Soundness.{answer_sound}
+use Rattle.book.proofs.Soundness.{sound_kept}
 
 -- ---- a face seen from both its cells
 
 east_face : (t : Table) (r c : ℕ) → suc c < t.columns → face t r (suc c) West ≡ face t r c East
-east_face t r c h = ap (λ o. meet (column East (cell_at t r c)) (seen t r c East o)) (sym (east_some t r c (suc c) h (add-one c)))
+east_face t r c h = rw (add-one c, lt-ltb)
 
 north_face : (t : Table) (r c : ℕ) → suc r < t.rows → face t (suc r) c South ≡ face t r c North
-north_face t r c h = ap (λ o. meet (column North (cell_at t r c)) (seen t r c North o)) (sym (north_some t r c (suc r) h (add-one r)))
+north_face t r c h = rw (add-one r, lt-ltb)
 
-module _ (rules : Rules) (t : Table) (rate r c : ℕ) where
-  west_from_east : suc c < t.columns → arrives rules t rate r (suc c) West ≡ leaves rules t rate r c East
-  west_from_east h =
-      ap positive (neg_ℤ-neg_ℤ (trunc (water rules (face t r (suc c) West)) (span t rate)))
-      ∙ ap (λ f. positive (trunc (water rules f) (span t rate))) (east_face t r c h)
+-- what one of them takes there the other gives; west and east, or south and north
+module _ (rules : Rules) (k : ℕ) (f g : Face) (e : f ≡ g) where
+  low_takes : takes rules k West f ≡ gives rules k East g
+  low_takes = rw (e, neg_ℤ-neg_ℤ)
 
-  west_to_east : suc c < t.columns → leaves rules t rate r (suc c) West ≡ arrives rules t rate r c East
-  west_to_east h = ap (λ f. positive (neg_ℤ (trunc (water rules f) (span t rate)))) (east_face t r c h)
-
-  south_from_north : suc r < t.rows → arrives rules t rate (suc r) c South ≡ leaves rules t rate r c North
-  south_from_north h =
-      ap positive (neg_ℤ-neg_ℤ (trunc (water rules (face t (suc r) c South)) (span t rate)))
-      ∙ ap (λ f. positive (trunc (water rules f) (span t rate))) (north_face t r c h)
-
-  south_to_north : suc r < t.rows → leaves rules t rate (suc r) c South ≡ arrives rules t rate r c North
-  south_to_north h = ap (λ f. positive (neg_ℤ (trunc (water rules f) (span t rate)))) (north_face t r c h)
+  low_gives : gives rules k West f ≡ takes rules k East g
+  low_gives = rw e
 
 -- ---- the account after a call
-
-abbrev BalancedAt : Stage → Table → Account → Type 0
-BalancedAt start t a = Unit {0}
-BalancedAt preparing t a = Unit {0}
-BalancedAt serving t a = Balanced (record { stage = serving; table = t; account = a })
-BalancedAt closed t a = Balanced (record { stage = closed; table = t; account = a })
-
-abbrev BalancedBook : Book → Type 0
-BalancedBook b = BalancedAt b.stage b.table b.account
 
 -- the water that stands after every cell is changed alike
 standing_map : (t : Table) → Sound t → (f : Cell → Cell) → standing (with_cells t (map f t.cells)) ≡ sum_places t (λ r c. (f (cell_at t r c)).depth)
 standing_map t sound f =
-    total_same t.rows t.columns (λ r c. (cell_at (with_cells t (map f t.cells)) r c).depth) (λ r c. (f (cell_at t r c)).depth)
-    (λ r c p q. ap (λ (k : Cell). k.depth) (map_at t.rows t.columns t.cells f r c sound.sized p q))
-
-rain_balanced : (t : Table) → Sound t → (a : Account) (n : ℕ) → BalancedAt serving t a → BalancedAt serving (with_cells t (map (rained n) t.cells)) (rain_more a (rained_on t n))
-rain_balanced t sound a n h =
-    let e = standing_map t sound (rained n) in
-    let u = total_add t.rows t.columns (λ r c. (cell_at t r c).depth) (λ r c. n) in
-    let v = total_even t.rows t.columns n in
-    omega arith
-
-soak_balanced : (t : Table) → Sound t → (a : Account) (n : ℕ) → BalancedAt serving t a → BalancedAt serving (with_cells t (map (soaked n) t.cells)) (soak_more a (soaked_away t n))
-soak_balanced t sound a n h =
-    let e = standing_map t sound (soaked n) in
-    let u = total_add t.rows t.columns (λ r c. (soaked n (cell_at t r c)).depth) (λ r c. min (cell_at t r c).depth n) in
-    let v = total_same t.rows t.columns (λ r c. (soaked n (cell_at t r c)).depth + min (cell_at t r c).depth n) (λ r c. (cell_at t r c).depth) (λ r c p q. omega arith) in
-    omega arith
-
-add_step : (old new soak poured rain wo eo so nn wi ei si ni lw le ls ln aw ae av an : ℕ)
-    → new + (lw + le + ls + ln) ≡ old + (aw + ae + av + an)
-    → old + soak + (wo + eo + so + nn) ≡ poured + rain + (wi + ei + si + ni)
-    → new + soak + ((wo + lw) + (eo + le) + (so + ls) + (nn + ln)) ≡ poured + rain + ((wi + aw) + (ei + ae) + (si + av) + (ni + an))
-add_step old new soak poured rain wo eo so nn wi ei si ni lw le ls ln aw ae av an h g = omega arith
+    total_same t.rows t.columns _ (λ r c. (f (cell_at t r c)).depth) (λ r c p q. rw (map_at t.rows t.columns t.cells f r c sound.sized p q))
 
 module _ (rules : Rules) (flux : LawfulFlux rules.water rules.push) (t : Table) (sound : Sound t) (rate : ℕ) (paced : too_slow t rate ≡ false) where
-  abbrev passes_out : Hand → ℕ
-  passes_out hand = sum_side t hand (λ r c. leaves rules t rate r c hand)
-
-  abbrev passes_in : Hand → ℕ
-  passes_in hand = sum_side t hand (λ r c. arrives rules t rate r c hand)
-
-  step_standing : standing (stepped rules t rate) + (passes_out West + passes_out East + passes_out South + passes_out North) ≡ standing t + (passes_in West + passes_in East + passes_in South + passes_in North)
-  step_standing =
-      sheet_balance t.rows t.columns (rows_some t sound) (columns_some t sound)
-      (λ r c. (cell_at t r c).depth) (λ r c. (cell_at (stepped rules t rate) r c).depth)
-      (λ r c. arrives rules t rate r c West) (λ r c. arrives rules t rate r c East) (λ r c. arrives rules t rate r c South) (λ r c. arrives rules t rate r c North)
-      (λ r c. leaves rules t rate r c West) (λ r c. leaves rules t rate r c East) (λ r c. leaves rules t rate r c South) (λ r c. leaves rules t rate r c North)
-      (λ r c p q. stepped_exact rules t rate r c p q (not_overdrawn rules flux t sound rate paced r c p q))
-      (λ r c p q. west_from_east rules t rate r c q) (λ r c p q. west_to_east rules t rate r c q)
-      (λ c r p q. south_from_north rules t rate r c q) (λ c r p q. south_to_north rules t rate r c q)
-
-  step_balanced : (a : Account) → BalancedAt serving t a → BalancedAt serving (stepped rules t rate) (account_after_step rules t rate a)
+  step_balanced : (a : Account) → Balanced (on_page serving t a Done).book → Balanced (on_page serving (stepped rules t rate) (account_after_step rules t rate a) Done).book
   step_balanced a h =
-      add_step (standing t) (standing (stepped rules t rate)) a.soak a.poured a.rain
-      a.west.out a.east.out a.south.out a.north.out a.west.into a.east.into a.south.into a.north.into
-      (passes_out West) (passes_out East) (passes_out South) (passes_out North) (passes_in West) (passes_in East) (passes_in South) (passes_in North)
-      step_standing h
+      omega (
+        arith,
+        sheet_balance t.rows t.columns (rows_some t sound) (columns_some t sound)
+            _ _ _ _ _ _ _ _ _ _
+            (λ r c p q. stepped_exact rules t rate r c p q (not_overdrawn rules flux t sound rate paced r c p q))
+            (λ r c p q. low_takes rules (span t rate) _ _ (east_face t r c q)) (λ r c p q. low_gives rules (span t rate) _ _ (east_face t r c q))
+            (λ c r p q. low_takes rules (span t rate) _ _ (north_face t r c q)) (λ c r p q. low_gives rules (span t rate) _ _ (north_face t r c q)),
+      )
 
 module _ (rules : Rules) (flux : LawfulFlux rules.water rules.push) (friction : LawfulFriction rules.slowed) where
-  accepted_balanced : (b : Book) (x : Call) → BalancedBook b → SoundAt (stage_of x) b.table → BalancedAt (stage_of x) b.table b.account → NoneThere (faults rules b x) → BalancedBook (accepted rules b x).book
-  accepted_balanced b (Prepare rows columns width) h s g n = tt
-  accepted_balanced b (Lay row column bed depth) h s g n = tt
-  accepted_balanced b Opening h s g n = let e = standing_map b.table s.0 at_rest in omega arith
-  accepted_balanced b (Step rate) h s g n = step_balanced rules flux b.table s rate n.1.0 b.account g
-  accepted_balanced b (Rain amount) h s g n = rain_balanced b.table s b.account amount g
-  accepted_balanced b (Soak amount) h s g n = soak_balanced b.table s b.account amount g
-  accepted_balanced b (ChangeSide side kind x y) h s g n = g
-  accepted_balanced b (AskCell row column) h s g n = h
-  accepted_balanced b AskAccount h s g n = h
-  accepted_balanced b AskStanding h s g n = h
-  accepted_balanced b AskSlowestRate h s g n = h
-  accepted_balanced b Close h s g n = g
+  accepted_balanced : (b : Book) (x : Call) → SoundAt (stage_of x) b.table → b.stage ≡ stage_of x → (Opened b → Balanced b) → NoneThere (faults rules b x) → Opened (accepted rules b x).book → Balanced (accepted rules b x).book
+  accepted_balanced b (Prepare rows columns width) s e h n (inl o) = cc
+  accepted_balanced b (Prepare rows columns width) s e h n (inr o) = cc
+  accepted_balanced b (Lay row column bed depth) s e h n (inl o) = cc
+  accepted_balanced b (Lay row column bed depth) s e h n (inr o) = cc
+  accepted_balanced b Opening s e h n o = omega (arith, standing_map b.table s.0 at_rest)
+  accepted_balanced b (Step rate) s e h n o = step_balanced rules flux b.table s rate n.1.0 b.account (h (inl e))
+  accepted_balanced b (Rain amount) s e h n o =
+      omega (arith, h (inl e), standing_map b.table s (rained amount), total_add b.table.rows b.table.columns (λ r c. (cell_at b.table r c).depth) (λ r c. amount), total_even b.table.rows b.table.columns amount)
+  accepted_balanced b (Soak amount) s e h n o =
+      omega (
+        arith,
+        h (inl e),
+        standing_map b.table s (soaked amount),
+        total_add b.table.rows b.table.columns (λ r c. (soaked amount (cell_at b.table r c)).depth) (λ r c. min (cell_at b.table r c).depth amount),
+        total_same b.table.rows b.table.columns (λ r c. (soaked amount (cell_at b.table r c)).depth + min (cell_at b.table r c).depth amount) (λ r c. (cell_at b.table r c).depth) (λ r c p q. omega arith),
+      )
+  accepted_balanced b x s e h n o = h (inl e)
 
-  answer_balanced : (b : Book) (x : Call) → SoundBook b → BalancedBook b → BalancedBook (answer rules b x).book
-  answer_balanced b x s h =
-      answer_book rules BalancedBook b x h
-      (λ e n. accepted_balanced b x h (subst (λ z. SoundAt z b.table) e s) (subst (λ z. BalancedAt z b.table b.account) e h) n)
-
-  after_balanced : (b : Book) (calls : List Call) → SoundBook b → BalancedBook b → BalancedBook (after rules b calls)
-  after_balanced b [] s h = h
-  after_balanced b (x ∷ xs) s h = after_balanced (answer rules b x).book xs (answer_sound rules friction b x s) (answer_balanced b x s h)
-
-  balanced_open : (b : Book) → Opened b → BalancedBook b → Balanced b
-  balanced_open b (inl e) h = subst (λ z. BalancedAt z b.table b.account) e h
-  balanced_open b (inr e) h = subst (λ z. BalancedAt z b.table b.account) e h
+  none_opened : Opened empty_book → Balanced empty_book
+  none_opened (inl o) = cc
+  none_opened (inr o) = cc
 
   pub balanced : (calls : List Call) → Opened (book_after rules calls) → Balanced (book_after rules calls)
-  balanced calls e = balanced_open (book_after rules calls) e (after_balanced empty_book calls refl tt)
+  balanced calls =
+      (after_book rules (λ b. SoundBook b × (Opened b → Balanced b))
+      (λ b x h e n. (sound_kept rules friction b x h.0 e n, accepted_balanced b x (subst (λ z. SoundAt z b.table) e h.0) e h.1 n)) empty_book calls (refl, none_opened)).1

@@ -1,18 +1,18 @@
 -- In a sound table both sides of every face are in the ranges in which a flux rule answers.
-use Rattle.std.proofs.Common.{◌≡◌, ℕ, zero, suc, ◌<◌, ◌≤◌, ℤ, pos, ◌+ℤ◌, ◌-ℤ◌, nat_abs, ◌≤ℤ◌, Some, None, Option, sym, refl, subst, zero-le, arith}
+use Rattle.std.proofs.Common.{◌≡◌, ℕ, zero, suc, ◌<◌, ◌≤◌, ℤ, pos, ◌+ℤ◌, ◌-ℤ◌, nat_abs, ◌≤ℤ◌, Some, None, Option, refl, zero-le, arith}
 use Rattle.std.proofs.lemmas.Int.{ints}
 use Rattle.book.specs.declared.cell.Cell.{Cell}
 use Rattle.book.specs.declared.side.Hand.{Hand}
-use Rattle.book.specs.declared.side.Hand.TheVariants.{West, East, South, North}
+use Rattle.book.specs.declared.side.Hand.TheVariants.{West, South, North}
 use Rattle.book.specs.declared.side.Side.{Side}
 use Rattle.book.specs.declared.side.Side.TheVariants.{Wall, Open, Held, Fed}
 use Rattle.rules.specs.Side.{Facing}
 use Rattle.book.specs.Ranges.{max_depth, max_velocity}
 use Rattle.book.specs.Numbers.{greater, where_wet}
-use Rattle.book.specs.Faces.{Column, column, ghost, inward, above, meet, face_of, own_depth, held_depth}
+use Rattle.book.specs.Faces.{Column, column, ghost, inward, above, meet, face_of, own_depth}
 use Rattle.book.specs.Sheets.{Table, Place, cell_at, side_at, neighbour, seen, beyond, face}
 use Rattle.book.proofs.Sound.{Ranged, Sound, GhostKept, FacingBoth}
-use Rattle.book.proofs.Numbers.{positive_le, abs_neg, greater_left, greater_right}
+use Rattle.book.proofs.Numbers.{positive_le, greater_left, greater_right}
 use Rattle.book.proofs.Neighbours.{Stands, stands}
 
 record Good (k : Column) : Type 0 where
@@ -28,15 +28,11 @@ wet_slow : (d : ℕ) (v : ℤ) → nat_abs v ≤ max_velocity → nat_abs (where
 wet_slow zero v h = zero-le
 wet_slow (suc d) v h = h
 
-wet_dry : (d : ℕ) (v : ℤ) → d ≡ 0 → where_wet d v ≡ pos 0
-wet_dry zero v h = refl
-wet_dry (suc d) v h = absurd (omega arith)
-
 side_facing : (b : ℤ) (k : Column) → k.bed ≤ℤ b → Good k → Facing (above b k).depth (above b k).normal
 side_facing b k h g = record {
-  shallow = let e = side_below b k h in omega (arith, g.shallow);
+  shallow = omega (arith, side_below b k h, g.shallow);
   slow = wet_slow (above b k).depth k.normal g.slow;
-  dry = wet_dry (above b k).depth k.normal;
+  dry = λ e. rw e;
 }
 
 meet_facing : (l r : Column) → Good l → Good r → FacingBoth (meet l r)
@@ -47,51 +43,29 @@ meet_facing l r g h = record {
 
 face_facing : (hand : Hand) (own far : Column) → Good own → Good far → FacingBoth (face_of hand own far)
 face_facing West own far g h = meet_facing far own h g
-face_facing East own far g h = meet_facing own far g h
 face_facing South own far g h = meet_facing far own h g
-face_facing North own far g h = meet_facing own far g h
-
-own_below_column : (hand : Hand) (own far : Column) → own_depth hand (face_of hand own far) ≤ own.depth
-own_below_column West own far = side_below (greater far.bed own.bed) own (greater_right far.bed own.bed)
-own_below_column East own far = side_below (greater own.bed far.bed) own (greater_left own.bed far.bed)
-own_below_column South own far = side_below (greater far.bed own.bed) own (greater_right far.bed own.bed)
-own_below_column North own far = side_below (greater own.bed far.bed) own (greater_left own.bed far.bed)
+face_facing hand own far g h = meet_facing own far g h
 
 -- ---- columns
 
 column_bed : (hand : Hand) (k : Cell) → (column hand k).bed ≡ k.bed
 column_bed West k = refl
-column_bed East k = refl
-column_bed South k = refl
-column_bed North k = refl
-
-column_depth : (hand : Hand) (k : Cell) → (column hand k).depth ≡ k.depth
-column_depth West k = refl
-column_depth East k = refl
-column_depth South k = refl
-column_depth North k = refl
+column_bed hand k = refl
 
 column_good : (hand : Hand) (k : Cell) → Ranged k → Good (column hand k)
-column_good West k h = record { shallow = h.depth; slow = h.slow_east }
-column_good East k h = record { shallow = h.depth; slow = h.slow_east }
 column_good South k h = record { shallow = h.depth; slow = h.slow_north }
 column_good North k h = record { shallow = h.depth; slow = h.slow_north }
+column_good hand k h = record { shallow = h.depth; slow = h.slow_east }
 
 inward_abs : (hand : Hand) (b : ℕ) → nat_abs (inward hand b) ≡ b
-inward_abs West b = refl
-inward_abs East b = abs_neg (pos b)
-inward_abs South b = refl
-inward_abs North b = abs_neg (pos b)
+inward_abs West b = omega (arith, ints)
+inward_abs hand b = omega (arith, ints)
 
 ghost_good : (s : Side) (hand : Hand) (k : Cell) → Ranged k → GhostKept s k → Good (ghost s hand (column hand k))
-ghost_good Wall hand k h b =
-    let g = column_good hand k h in
-    record { shallow = g.shallow; slow = rw (abs_neg (column hand k).normal) g.slow }
+ghost_good Wall hand k h b = let g = column_good hand k h in record { shallow = g.shallow; slow = omega (arith, ints, g.slow) }
 ghost_good Open hand k h b = column_good hand k h
-ghost_good (Held a) hand k h b =
-    let g = column_good hand k h in
-    record { shallow = subst (λ z. held_depth a z ≤ max_depth) (sym (column_bed hand k)) b; slow = g.slow }
-ghost_good (Fed a v) hand k h b = record { shallow = b.1; slow = subst (λ n. n ≤ max_velocity) (sym (inward_abs hand v)) b.2 }
+ghost_good (Held a) hand k h b = record { shallow = rw column_bed b; slow = (column_good hand k h).slow }
+ghost_good (Fed a v) hand k h b = record { shallow = b.1; slow = omega (arith, inward_abs hand v, b.2) }
 
 -- ---- faces of a table
 
@@ -107,4 +81,6 @@ module _ (t : Table) (sound : Sound t) (r c : ℕ) (p : r < t.rows) (q : c < t.c
 
 -- a cell's own depth at a face is no more than its depth
 pub own_below : (t : Table) (r c : ℕ) (hand : Hand) → own_depth hand (face t r c hand) ≤ (cell_at t r c).depth
-own_below t r c hand = omega (arith, own_below_column hand (column hand (cell_at t r c)) (beyond t r c hand), column_depth hand (cell_at t r c))
+own_below t r c West = side_below _ (column West (cell_at t r c)) (greater_right _ _)
+own_below t r c South = side_below _ (column South (cell_at t r c)) (greater_right _ _)
+own_below t r c hand = side_below _ (column hand (cell_at t r c)) (greater_left _ _)

@@ -1,9 +1,8 @@
--- The cells of a sheet, row by row: made by a function, changed all alike or in one place.
-use Rattle.std.proofs.Common.{◌≡◌, ℕ, zero, suc, ◌+◌, ◌*◌, ◌/◌, ◌%◌, ◌<◌, ◌⊎◌, List, map, length, get_or, set, sym, ap, ◌∙◌, ap₂, inl, inr, ⊎_elim, arith}
+-- The cells of a sheet, row by row: made by a function, or changed all alike.
+use Rattle.std.proofs.Common.{◌≡◌, ℕ, zero, suc, ◌+◌, ◌*◌, ◌/◌, ◌%◌, ◌<◌, List, map, length, get_or, sym, ap, ◌∙◌, ap₂, arith}
 use Rattle.std.proofs.lemmas.Nat.{mul-add-lt, div-mul-add, mod-mul-add, div_below, mod_below, div-add-mod'}
 use Rattle.std.proofs.lemmas.List.FromFn.{length-map-range_with_len, get_or-map-range_with_len, fill_by_all}
-use Rattle.std.proofs.lemmas.List.{get_or-map, get_or-set_same, get_or-set_other}
-use Rattle.std.proofs.lemmas.Bool.{cases_eq}
+use Rattle.std.proofs.lemmas.List.{get_or-map}
 use Rattle.book.specs.declared.cell.Cell.{Cell}
 use Rattle.book.specs.Sheets.{no_cell, grid}
 
@@ -30,22 +29,5 @@ grid_from rows columns xs f len h =
     let p : 0 < columns = some_columns rows columns k l in
     ap (λ j. get_or xs j no_cell) (sym (div-add-mod' k columns)) ∙ h (k / columns) (k % columns) (div_below k columns rows p l) (mod_below k columns p))
 
-pub grid_same : (rows columns : ℕ) (f g : ℕ → ℕ → Cell) → ((r c : ℕ) → r < rows → c < columns → f r c ≡ g r c) → grid rows columns f ≡ grid rows columns g
-grid_same rows columns f g h = grid_from rows columns (grid rows columns f) g (length_grid rows columns f) (λ r c k l. grid_at rows columns f r c k l ∙ h r c k l)
-
 pub map_at : (rows columns : ℕ) (cells : List Cell) (f : Cell → Cell) (r c : ℕ) → length cells ≡ rows * columns → r < rows → c < columns → get_or (map f cells) (r * columns + c) no_cell ≡ f (get_or cells (r * columns + c) no_cell)
 map_at rows columns cells f r c e p q = get_or-map f cells (r * columns + c) no_cell no_cell (omega (arith, place_below rows columns r c p q))
-
--- what a place holds after one place is set: the new or what was there
-pub set_at : (cells : List Cell) (i j : ℕ) (k : Cell) → j < length cells → (get_or (set cells i k) j no_cell ≡ k) ⊎ (get_or (set cells i k) j no_cell ≡ get_or cells j no_cell)
-set_at cells i j k h = ⊎_elim (λ e. inl (same e)) (λ e. inr (get_or-set_other cells i j k no_cell e)) (cases_eq j i)
-  where
-    same : j ≡ i → get_or (set cells i k) j no_cell ≡ k
-    same e = let b : i < length cells = omega arith in ap (λ x. get_or (set cells i k) x no_cell) e ∙ get_or-set_same cells i k no_cell b
-
--- two places with one number are one place
-pub one_row : (columns r c r' c' : ℕ) → c < columns → c' < columns → r * columns + c ≡ r' * columns + c' → r ≡ r'
-one_row columns r c r' c' h k e = sym (div-mul-add r columns c h) ∙ (ap (λ n. n / columns) e ∙ div-mul-add r' columns c' k)
-
-pub one_column : (columns r c r' c' : ℕ) → c < columns → c' < columns → r * columns + c ≡ r' * columns + c' → c ≡ c'
-one_column columns r c r' c' h k e = sym (mod-mul-add r columns c h) ∙ (ap (λ n. n % columns) e ∙ mod-mul-add r' columns c' k)

@@ -1,32 +1,23 @@
 -- An answer is a refusal that leaves the book, or the page of a call that fits the stage and has no fault.
-use Rattle.std.proofs.Common.{◌≡◌, ℕ, zero, suc, true, false, not, List, [], ◌∷◌, sym, refl, ap, ◌∙◌, arith, lit<}
-use Rattle.std.proofs.lemmas.Bool.{both_ways, not-false, eqb-true, cond_both}
+use Rattle.std.proofs.Common.{arith, ◌≡◌, true, false, not, List, [], ◌∷◌, refl}
+use Rattle.std.proofs.lemmas.Bool.{not-false, cond_both}
 use Rattle.book.specs.declared.call.Call.{Call}
-use Rattle.book.specs.declared.call.Call.TheVariants.{Prepare, Lay, Open as Opening, Step, Rain, Soak, ChangeSide, AskCell, AskAccount, AskStanding, AskSlowestRate, Close}
+use Rattle.book.specs.declared.call.Call.TheVariants.{Prepare, Step}
 use Rattle.book.specs.declared.refusal.Refusal.{Refusal}
 use Rattle.book.specs.declared.refusal.Refusal.TheVariants.{OutOfStage}
 use Rattle.book.specs.declared.reply.Reply.TheVariants.{Done, Refused}
 use Rattle.book.specs.Step.{Rules}
-use Rattle.book.specs.Calls.{Book, Stage, start, preparing, serving, closed, Page, Fault, fault, unchanged, stage_of, stage_number, fits, judged, faults, accepted, answer}
+use Rattle.book.specs.Calls.{Book, Stage, start, preparing, serving, closed, Page, Fault, fault, unchanged, stage_of, fits, judged, faults, accepted, answer, after}
 use Rattle.book.specs.Laws.{is_refusal, InOrder}
 
 -- ---- the stage
 
-stage_back : ℕ → Stage
-stage_back zero = start
-stage_back (suc zero) = preparing
-stage_back (suc (suc zero)) = serving
-stage_back (suc (suc (suc n))) = closed
-
-stage_there : (s : Stage) → stage_back (stage_number s) ≡ s
-unfolding stage_back
-stage_there start = refl
-stage_there preparing = refl
-stage_there serving = refl
-stage_there closed = refl
-
 pub stage_is : (s : Stage) (x : Call) → fits s x ≡ true → s ≡ stage_of x
-stage_is s x e = sym (stage_there s) ∙ (ap stage_back (eqb-true (stage_number s) (stage_number (stage_of x)) e) ∙ stage_there (stage_of x))
+stage_is start (Prepare rows columns width) e = cc
+stage_is preparing (Prepare rows columns width) e = cc
+stage_is serving (Prepare rows columns width) e = cc
+stage_is closed (Prepare rows columns width) e = cc
+stage_is s x e = cc
 
 -- ---- what an answer can be
 
@@ -36,7 +27,7 @@ NoneThere (x ∷ xs) = (x.there ≡ false) × NoneThere xs
 
 judged_page : (P : Page → Type 0) (xs : List Fault) (b : Book) (p : Page) → ((why : Refusal) → P (unchanged b (Refused why))) → (NoneThere xs → P p) → P (judged xs b p)
 judged_page P [] b p f g = g tt
-judged_page P (x ∷ xs) b p f g = cond_both x.there (unchanged b (Refused x.why)) (judged xs b p) P (λ _. f x.why) (λ e. judged_page P xs b p f (λ n. g (e, n)))
+judged_page P (x ∷ xs) b p f g = cond_both x.there _ _ P (λ _. f x.why) (λ e. judged_page P xs b p f (λ n. g (e, n)))
 
 module _ (rules : Rules) where
   answer_page : (P : Page → Type 0) (b : Book) (x : Call) → ((why : Refusal) → P (unchanged b (Refused why))) → (b.stage ≡ stage_of x → NoneThere (faults rules b x) → P (accepted rules b x)) → P (answer rules b x)
@@ -46,43 +37,25 @@ module _ (rules : Rules) where
   pub answer_book : (P : Book → Type 0) (b : Book) (x : Call) → P b → (b.stage ≡ stage_of x → NoneThere (faults rules b x) → P (accepted rules b x).book) → P (answer rules b x).book
   answer_book P b x h g = answer_page (λ p. P p.book) b x (λ _. h) g
 
-  -- a call that is done fits the stage and has no fault, and the book is what it makes of it
-  pub answer_done : (b : Book) (x : Call) → (answer rules b x).reply ≡ Done → (b.stage ≡ stage_of x) × NoneThere (faults rules b x)
-  answer_done b x = answer_page (λ p. p.reply ≡ Done → (b.stage ≡ stage_of x) × NoneThere (faults rules b x)) b x (λ why e. let z : ◌≡◌ {A = ℕ} 0 1 = cc in absurd (omega arith)) (λ s n _. (s, n))
+  -- and then, from any book that has it, of the book after a list of calls
+  pub after_book : (P : Book → Type 0) → ((b : Book) (x : Call) → P b → b.stage ≡ stage_of x → NoneThere (faults rules b x) → P (accepted rules b x).book) → (b : Book) (calls : List Call) → P b → P (after rules b calls)
+  after_book P g b [] h = h
+  after_book P g b (x ∷ xs) h = after_book P g (answer rules b x).book xs (answer_book P b x h (g b x h))
 
-  pub answer_accepted : (b : Book) (x : Call) → (answer rules b x).reply ≡ Done → (answer rules b x).book ≡ (accepted rules b x).book
-  answer_accepted b x = answer_page (λ p. p.reply ≡ Done → p.book ≡ (accepted rules b x).book) b x (λ why e. let z : ◌≡◌ {A = ℕ} 0 1 = cc in absurd (omega arith)) (λ _ _ _. refl)
+  -- a call that is done fits the stage and has no fault, and the book is what it makes of it
+  pub answer_done : (b : Book) (x : Call) → (answer rules b x).reply ≡ Done → (b.stage ≡ stage_of x) × NoneThere (faults rules b x) × ((answer rules b x).book ≡ (accepted rules b x).book)
+  answer_done b x = answer_page (λ p. p.reply ≡ Done → (b.stage ≡ stage_of x) × NoneThere (faults rules b x) × (p.book ≡ (accepted rules b x).book)) b x (λ why e. cc) (λ s n _. (s, n, refl))
 
   -- ---- a refusal changes nothing
 
   accepts : (b : Book) (x : Call) → is_refusal (accepted rules b x).reply ≡ false
   accepts b (Prepare rows columns width) = refl
-  accepts b (Lay row column bed depth) = refl
-  accepts b Opening = refl
-  accepts b (Step rate) = refl
-  accepts b (Rain amount) = refl
-  accepts b (Soak amount) = refl
-  accepts b (ChangeSide side kind x y) = refl
-  accepts b (AskCell row column) = refl
-  accepts b AskAccount = refl
-  accepts b AskStanding = refl
-  accepts b AskSlowestRate = refl
-  accepts b Close = refl
+  accepts b x = refl
 
   pub refusal_leaves : (b : Book) (x : Call) → is_refusal (answer rules b x).reply ≡ true → (answer rules b x).book ≡ b
-  refusal_leaves b x = answer_page (λ p. is_refusal p.reply ≡ true → p.book ≡ b) b x (λ _ _. refl) (λ _ _ e. absurd (both_ways (is_refusal (accepted rules b x).reply) (accepts b x) e))
+  refusal_leaves b x = answer_page (λ p. is_refusal p.reply ≡ true → p.book ≡ b) b x (λ _ _. refl) (λ _ _ e. cc (accepts b x))
 
   -- the faults stand in the order of their numbers
   pub in_order : (b : Book) (x : Call) → InOrder (faults rules b x)
-  in_order b (Prepare rows columns width) = tt
-  in_order b (Lay row column bed depth) = (lit< tt, (lit< tt, tt))
-  in_order b Opening = tt
-  in_order b (Step rate) = (lit< tt, (lit< tt, (lit< tt, tt)))
-  in_order b (Rain amount) = (lit< tt, (lit< tt, tt))
-  in_order b (Soak amount) = (lit< tt, tt)
-  in_order b (ChangeSide side kind x y) = (lit< tt, tt)
-  in_order b (AskCell row column) = tt
-  in_order b AskAccount = tt
-  in_order b AskStanding = tt
-  in_order b AskSlowestRate = tt
-  in_order b Close = tt
+  in_order b (Step rate) = search arith
+  in_order b x = search arith

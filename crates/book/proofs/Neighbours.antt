@@ -1,71 +1,36 @@
 -- Hands and places: the number of a hand, the places along a side, and what lies to each hand of a place.
-use Rattle.std.proofs.Common.{◌≡◌, ℕ, zero, suc, ◌+◌, ◌-◌, ◌<◌, ◌≤◌, ltb, Some, None, Option, refl, ap, ◌∙◌, subst, arith}
-use Rattle.std.proofs.lemmas.Bool.{ltb-true, ltb-false, lt-ltb, le-ltb, or_parts, cond-true, cond-false, cond_both}
+use Rattle.std.proofs.Common.{⊎_elim, ◌≡◌, ℕ, zero, suc, ◌+◌, ◌-◌, ◌<◌, ◌≤◌, Some, None, Option, refl, arith}
+use Rattle.std.proofs.lemmas.Bool.{cases_lt, lt-ltb, le-ltb, or_parts}
+use Rattle.std.proofs.lemmas.Bool.Decides.{nat_tests}
 use Rattle.book.specs.declared.side.Hand.{Hand}
 use Rattle.book.specs.declared.side.Hand.TheVariants.{West, East, South, North}
-use Rattle.book.specs.Ranges.{outside}
 use Rattle.book.specs.Sheets.{Table, Place, side_number, cell_at, side_at, neighbour, border_length, border_place}
 use Rattle.book.specs.Calls.{hand_of}
 use Rattle.book.proofs.Sound.{Sound, GhostKept}
-use Rattle.book.proofs.Numbers.{inside}
 
 pub hand_there : (hand : Hand) → hand_of (side_number hand) ≡ hand
 hand_there West = refl
-hand_there East = refl
-hand_there South = refl
-hand_there North = refl
+hand_there hand = refl
 
 pub number_below : (hand : Hand) → side_number hand < 4
 number_below West = omega arith
-number_below East = omega arith
-number_below South = omega arith
-number_below North = omega arith
+number_below hand = omega arith
 
 -- a sheet has a row and a column
 pub rows_some : (t : Table) → Sound t → 1 ≤ t.rows
-rows_some t sound = (inside 1 64 t.rows (or_parts (outside 1 64 t.rows) _ (or_parts _ _ sound.size).0).0).0
+rows_some t sound = grind (arith, or_parts, nat_tests, sound.size)
 
 pub columns_some : (t : Table) → Sound t → 1 ≤ t.columns
-columns_some t sound = (inside 1 64 t.columns (or_parts (outside 1 64 t.rows) _ (or_parts _ _ sound.size).0).1).0
+columns_some t sound = grind (arith, or_parts, nat_tests, sound.size)
 
 -- a place along a side is on the sheet
 pub border_row : (t : Table) → Sound t → (hand : Hand) (k : ℕ) → k < border_length t.rows t.columns hand → (border_place t.rows t.columns hand k).row < t.rows
-border_row t sound West k h = h
-border_row t sound East k h = h
-border_row t sound South k h = rows_some t sound
-border_row t sound North k h = omega (arith, rows_some t sound)
+border_row t sound West k h = omega (arith, rows_some t sound)
+border_row t sound hand k h = omega (arith, rows_some t sound)
 
 pub border_column : (t : Table) → Sound t → (hand : Hand) (k : ℕ) → k < border_length t.rows t.columns hand → (border_place t.rows t.columns hand k).column < t.columns
-border_column t sound West k h = columns_some t sound
-border_column t sound East k h = omega (arith, columns_some t sound)
-border_column t sound South k h = h
-border_column t sound North k h = h
-
--- ---- the neighbour to a hand, or none
-
-pub west_none : (t : Table) (r c : ℕ) → c ≡ 0 → neighbour t r c West ≡ None
-west_none t r c e = ap (λ n. neighbour t r n West) e
-
-pub west_some : (t : Table) (r c m : ℕ) → c ≡ suc m → neighbour t r c West ≡ Some (record { row = r; column = m })
-west_some t r c m e = ap (λ n. neighbour t r n West) e
-
-pub east_none : (t : Table) (r c : ℕ) → t.columns ≤ c + 1 → neighbour t r c East ≡ None
-east_none t r c h = cond-false (ltb (c + 1) t.columns) (Some (record { row = r; column = c + 1 })) None (le-ltb (c + 1) t.columns h)
-
-pub east_some : (t : Table) (r c m : ℕ) → m < t.columns → c + 1 ≡ m → neighbour t r c East ≡ Some (record { row = r; column = m })
-east_some t r c m h e = cond-true (ltb (c + 1) t.columns) (Some (record { row = r; column = c + 1 })) None (lt-ltb (c + 1) t.columns (omega arith)) ∙ ap (λ n. Some (record { row = r; column = n })) e
-
-pub south_none : (t : Table) (r c : ℕ) → r ≡ 0 → neighbour t r c South ≡ None
-south_none t r c e = ap (λ n. neighbour t n c South) e
-
-pub south_some : (t : Table) (r c m : ℕ) → r ≡ suc m → neighbour t r c South ≡ Some (record { row = m; column = c })
-south_some t r c m e = ap (λ n. neighbour t n c South) e
-
-pub north_none : (t : Table) (r c : ℕ) → t.rows ≤ r + 1 → neighbour t r c North ≡ None
-north_none t r c h = cond-false (ltb (r + 1) t.rows) (Some (record { row = r + 1; column = c })) None (le-ltb (r + 1) t.rows h)
-
-pub north_some : (t : Table) (r c m : ℕ) → m < t.rows → r + 1 ≡ m → neighbour t r c North ≡ Some (record { row = m; column = c })
-north_some t r c m h e = cond-true (ltb (r + 1) t.rows) (Some (record { row = r + 1; column = c })) None (lt-ltb (r + 1) t.rows (omega arith)) ∙ ap (λ n. Some (record { row = n; column = c })) e
+border_column t sound West k h = omega (arith, columns_some t sound)
+border_column t sound hand k h = omega (arith, columns_some t sound)
 
 -- ---- in a sound table: the neighbour is on the sheet, or the cell stands at that side
 
@@ -77,16 +42,10 @@ pub stands : (t : Table) → Sound t → (r c : ℕ) → r < t.rows → c < t.co
 stands t sound r zero h k West = sound.ghosts West r h
 stands t sound r (suc c) h k West = (h, omega arith)
 stands t sound r c h k East =
-    cond_both (ltb (c + 1) t.columns) _ _ (Stands t r c East) (λ e. (h, ltb-true (c + 1) t.columns e))
-    (λ e.
-    let l = ltb-false (c + 1) t.columns e in
-    let last : t.columns - 1 ≡ c = omega arith in
-    subst (λ x. GhostKept (side_at t East) (cell_at t r x)) last (sound.ghosts East r h))
+    ⊎_elim (λ (l : c + 1 < t.columns). rw lt-ltb (h, l))
+    (λ (l : t.columns ≤ c + 1). let last : t.columns - 1 ≡ c = omega arith in rw le-ltb (rw last at (sound.ghosts East r h))) (cases_lt (c + 1) t.columns)
 stands t sound zero c h k South = sound.ghosts South c k
 stands t sound (suc r) c h k South = (omega arith, k)
 stands t sound r c h k North =
-    cond_both (ltb (r + 1) t.rows) _ _ (Stands t r c North) (λ e. (ltb-true (r + 1) t.rows e, k))
-    (λ e.
-    let l = ltb-false (r + 1) t.rows e in
-    let last : t.rows - 1 ≡ r = omega arith in
-    subst (λ x. GhostKept (side_at t North) (cell_at t x c)) last (sound.ghosts North c k))
+    ⊎_elim (λ (l : r + 1 < t.rows). rw lt-ltb (l, k))
+    (λ (l : t.rows ≤ r + 1). let last : t.rows - 1 ≡ r = omega arith in rw le-ltb (rw last at (sound.ghosts North c k))) (cases_lt (r + 1) t.rows)

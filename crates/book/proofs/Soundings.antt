@@ -1,11 +1,9 @@
 -- The soundings hold: the roots by uniqueness, the rest by computation with these roots.
-use Rattle.std.proofs.Common.{◌≡◌, ℕ, zero, suc, ◌+◌, ◌*◌, ◌<◌, max, Bool, false, cond, not, eqb, ltb, List, [], ◌∷◌, ℤ, pos, ◌+ℤ◌, ◌-ℤ◌, ◌*ℤ◌, neg_ℤ, nat_abs, sym, refl, ap, ◌∙◌, arith}
+use Rattle.std.proofs.Common.{◌≡◌, ℕ, zero, suc, ◌+◌, ◌*◌, ◌<◌, ◌≤◌, max, Bool, false, cond, not, eqb, ltb, List, [], ◌∷◌, ℤ, pos, ◌+ℤ◌, ◌-ℤ◌, ◌*ℤ◌, neg_ℤ, nat_abs, sym, refl, ap, arith}
 use lib.Signed.{quot_z}
 use Rattle.std.proofs.lemmas.Bool.{eqb-true, cond_both}
 use Rattle.book.specs.declared.side.Hand.{Hand}
-use Rattle.book.specs.declared.side.Hand.TheVariants.{West, East, South, North}
-use Rattle.book.specs.declared.cell.Cell.{Cell}
-use Rattle.book.specs.declared.account.Passed.{Passed}
+use Rattle.book.specs.declared.side.Hand.TheVariants.{West, East}
 use Rattle.book.specs.declared.call.Call.{Call}
 use Rattle.book.specs.declared.call.Call.TheVariants.{Step, ChangeSide, AskCell, AskAccount, AskSlowestRate}
 use Rattle.book.specs.declared.refusal.Refusal.TheVariants.{OutOfStage, Rate, TooSlow, Brim, FullAccount, NoRate}
@@ -14,13 +12,12 @@ use Rattle.book.specs.declared.reply.Reply.TheVariants.{Done, RateIs}
 use Rattle.rules.specs.BareBed.{bare_slowed}
 use Rattle.rules.specs.Drag.{quot_up, dragged}
 use Rattle.rules.specs.Hll.{slow_wave, fast_wave, slowest, fastest, by_waves, fan_water, fan_push, hll_water, hll_push}
-use Rattle.rules.specs.Root.{root_of, LeastRoot}
+use Rattle.rules.specs.Root.{root_of}
 use Rattle.rules.specs.Rusanov.{rusanov_water, rusanov_push}
 use Rattle.rules.specs.Side.{face_pace, pace_of, discharge, momentum}
 use Rattle.rules.specs.Weed.{weed_slowed}
 use Rattle.book.specs.Ranges.{max_rate, rate_amiss}
 use Rattle.book.specs.Numbers.{share, film, friction_speed}
-use Rattle.book.specs.Faces.{Face}
 use Rattle.book.specs.Step.{Rules, cell_after}
 use Rattle.book.specs.Sheets.{Table, some_place, some_hand, cell_at, side_at, face, span, new_cell, brim_passed}
 use Rattle.book.specs.Accounts.{nothing_passed, passed_by, account_after_step, full}
@@ -32,28 +29,28 @@ use Rattle.rules.specs.Roots.{short_more, root_only}
 
 -- ---- roots, each the only number that is one
 
-root_is : (d s : ℕ) → LeastRoot d s → root_of d ≡ s
-root_is d s h = sym (root_only d s h)
+root_is : (d s : ℕ) → 981 * d ≤ 10 * ((s + 1) * (s + 1)) → 10 * (s * s) < 981 * d → root_of d ≡ s + 1
+root_is d s h l = sym (root_only d (s + 1) (record { enough = h; least = short_more (981 * d) s l }))
 
 root_0 : root_of 0 ≡ 0
-root_0 = root_is 0 0 (record { enough = omega arith; least = λ u h. omega arith })
+root_0 = sym (root_only 0 0 (record { enough = omega arith; least = λ u h. omega arith }))
 
 root_1 : root_of 1 ≡ 10
-root_1 = root_is 1 10 (record { enough = omega arith; least = short_more 981 9 (omega arith) })
+root_1 = root_is 1 9 (omega arith) (omega arith)
 
 root_500 : root_of 500 ≡ 222
-root_500 = root_is 500 222 (record { enough = omega arith; least = short_more 490500 221 (omega arith) })
+root_500 = root_is 500 221 (omega arith) (omega arith)
 
 root_1000 : root_of 1000 ≡ 314
-root_1000 = root_is 1000 314 (record { enough = omega arith; least = short_more 981000 313 (omega arith) })
+root_1000 = root_is 1000 313 (omega arith) (omega arith)
 
 root_2000000 : root_of 2000000 ≡ 14008
-root_2000000 = root_is 2000000 14008 (record { enough = omega arith; least = short_more 1962000000 14007 (omega arith) })
+root_2000000 = root_is 2000000 14007 (omega arith) (omega arith)
 
 -- ---- the same book with the roots written down, so that it computes
 
 root_at : (d k s rest : ℕ) → root_of k ≡ s → root_of d ≡ rest → root_of d ≡ cond (eqb d k) s rest
-root_at d k s rest e f = cond_both (eqb d k) s rest (λ z. root_of d ≡ z) (λ h. ap root_of (eqb-true d k h) ∙ e) (λ _. f)
+root_at d k s rest e f = cond_both (eqb d k) s rest (λ z. root_of d ≡ z) (λ h. rw (eqb-true d k h) e) (λ _. f)
 
 abbrev quick_root : ℕ → ℕ
 quick_root d = cond (eqb d 0) 0 (cond (eqb d 500) 222 (cond (eqb d 1000) 314 (cond (eqb d 2000000) 14008 (root_of d))))
@@ -105,17 +102,9 @@ slowest_step_quick : (b : Book) (rate : ℕ) → replies smooth b (AskSlowestRat
 unfolding rusanov_water rusanov_push
 slowest_step_quick b rate = ap (λ m. (slowest_at m b).reply ∷ (step_at m (slowest_at m b).book rate).reply ∷ []) pace_quick
 
-cell_quick : (c : ℕ) (cell : Cell) (faces : Hand → Face) (k rate : ℕ) → cell_after (rusanov_over c) cell faces k rate ≡ cell_after (rusanov_at c quick_pace) cell faces k rate
+rules_quick : (c : ℕ) → rusanov_over c ≡ rusanov_at c quick_pace
 unfolding rusanov_water rusanov_push
-cell_quick c cell faces k rate = ap (λ m. cell_after (rusanov_at c m) cell faces k rate) pace_quick
-
-new_quick : (t : Table) (rate r c : ℕ) → new_cell smooth t rate r c ≡ new_cell (rusanov_at 0 quick_pace) t rate r c
-unfolding rusanov_water rusanov_push
-new_quick t rate r c = ap (λ m. new_cell (rusanov_at 0 m) t rate r c) pace_quick
-
-passed_quick : (t : Table) (rate : ℕ) (hand : Hand) (p : Passed) → passed_by smooth t rate hand p ≡ passed_by (rusanov_at 0 quick_pace) t rate hand p
-unfolding rusanov_water rusanov_push
-passed_quick t rate hand p = ap (λ m. passed_by (rusanov_at 0 m) t rate hand p) pace_quick
+rules_quick c = ap (rusanov_at c) pace_quick
 
 -- ---- the still pair
 
@@ -125,8 +114,7 @@ pair = (book_after smooth (two_cells 1000 (pos 500) 500 [])).table
 at_both : (P : ℕ → ℕ → Type 0) → P 0 0 → P 0 1 → (r c : ℕ) → (r < 1) × (c < 2) → P r c
 at_both P a b zero zero on = a
 at_both P a b zero (suc zero) on = b
-at_both P a b zero (suc (suc c)) on = absurd (omega arith)
-at_both P a b (suc r) c on = absurd (omega arith)
+at_both P a b r c on = absurd (omega arith)
 
 abbrev Level : Hand → ℕ → ℕ → Type 0
 Level hand r c = (face pair r c hand).left.depth ≡ (face pair r c hand).right.depth
@@ -141,15 +129,11 @@ pair_still = record {
   where
     by : (hand : Hand) (r c : ℕ) → (r < 1) × (c < 2) → Level hand r c
     by West = at_both (Level West) refl refl
-    by East = at_both (Level East) refl refl
-    by South = at_both (Level South) refl refl
-    by North = at_both (Level North) refl refl
+    by hand = at_both (Level hand) refl refl
 
     unfed : (hand : Hand) → fed (side_at pair hand) ≡ false
     unfed West = refl
-    unfed East = refl
-    unfed South = refl
-    unfed North = refl
+    unfed hand = refl
 
 -- ---- all
 
@@ -185,8 +169,8 @@ further_soundings =
       fed_west = ap four_done (step_quick (book_after smooth (one_cell 1000 0 (ChangeSide 0 3 (pos 1000) 400 ∷ []))) 3 (AskCell 0 0 ∷ AskAccount ∷ []));
       fed_south = ap four_done (step_quick (book_after smooth (one_cell 1000 0 (ChangeSide 2 3 (pos 1000) 400 ∷ []))) 3 (AskCell 0 0 ∷ AskAccount ∷ []));
       kinds = (refl, refl, refl, refl);
-      outlet_step = (new_quick outlet 3 0 0, passed_quick outlet 3 East nothing_passed);
-      stream_step = cell_quick 1000 (streaming 1000 (pos 7000) (pos 400000)) stream 10000 10;
+      outlet_step = (ap (λ rules. new_cell rules outlet 3 0 0) (rules_quick 0), ap (λ rules. passed_by rules outlet 3 East nothing_passed) (rules_quick 0));
+      stream_step = ap (λ rules. cell_after rules (streaming 1000 (pos 7000) (pos 400000)) stream 10000 10) (rules_quick 1000);
     }
 
 pub limits : Limits

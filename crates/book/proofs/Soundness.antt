@@ -1,39 +1,38 @@
 -- Every list of calls leaves a sound table; no step overdraws a cell.
-use Rattle.std.proofs.Common.{◌≡◌, ℕ, zero, suc, ◌+◌, ◌*◌, ◌<◌, ◌≤◌, true, false, ltb, List, [], ◌∷◌, map, length, get_or, set, ℤ, pos, negsuc, nat_abs, sym, refl, ap, ◌∙◌, subst, ⊎_elim, zero-le, arith}
-use Rattle.std.proofs.lemmas.List.{get_or-set_same, get_or-set_other, get_or-replicate, length-set, length-map, length-replicate}
-use Rattle.std.proofs.lemmas.Bool.{ltb-false, cases_eq, or_parts, true≢false}
+use Rattle.std.proofs.Common.{◌≡◌, ℕ, zero, suc, ◌+◌, ◌*◌, ◌<◌, ◌≤◌, true, false, ltb, List, map, length, get_or, set, ℤ, pos, negsuc, nat_abs, refl, ap, ◌∙◌, subst, ⊎_elim, zero-le, arith}
+use Rattle.std.proofs.lemmas.Grind.{get_or-set_at}
+use Rattle.std.proofs.lemmas.List.{get_or-set_other, get_or-replicate, length-set, length-map, length-replicate}
+use Rattle.std.proofs.lemmas.Bool.{ltb-false, cases_eq, or_parts}
 use Rattle.book.specs.declared.cell.Cell.{Cell}
 use Rattle.book.specs.declared.side.Hand.{Hand}
-use Rattle.book.specs.declared.side.Hand.TheVariants.{West, East, South, North}
+use Rattle.book.specs.declared.side.Hand.TheVariants.{West}
 use Rattle.book.specs.declared.side.Side.{Side}
 use Rattle.book.specs.declared.side.Side.TheVariants.{Wall, Open, Held, Fed}
 use Rattle.book.specs.declared.call.Call.{Call}
-use Rattle.book.specs.declared.call.Call.TheVariants.{Prepare, Lay, Open as Opening, Step, Rain, Soak, ChangeSide, AskCell, AskAccount, AskStanding, AskSlowestRate, Close}
+use Rattle.book.specs.declared.call.Call.TheVariants.{Prepare, Lay, Open as Opening, Step, Rain, Soak, ChangeSide, Close}
 use Rattle.book.specs.declared.reply.Reply.TheVariants.{Done}
 use Rattle.rules.specs.Flux.{LawfulFlux}
 use Rattle.rules.specs.Friction.{LawfulFriction}
-use Rattle.book.specs.Ranges.{outside, outsideℤ, max_depth, max_velocity, max_bed, max_rate, rate_amiss, size_amiss}
-use Rattle.book.specs.Numbers.{positive}
-use Rattle.book.specs.Faces.{held_depth}
+use Rattle.book.specs.Ranges.{outside, max_depth, max_velocity, max_bed, max_rate, rate_amiss, size_amiss}
 use Rattle.book.specs.Step.{Rules}
 use Rattle.book.specs.Sheets.{Table, cell_at, no_cell, side_at, side_number, span, face, border_length, border_cell, leaving, new_cell, over_brim, grid, with_cells, with_sides, four_walls, blank, stepped, arriving}
-use Rattle.book.specs.Calls.{Book, Stage, start, preparing, serving, closed, empty_book, fresh, held_over, hand_of, side_of, side_amiss, soaked, rained, at_rest, stage_of, faults, accepted, answer, after, book_after}
+use Rattle.book.specs.Calls.{Book, Stage, start, preparing, serving, empty_book, fresh, held_over, hand_of, side_of, side_amiss, soaked, rained, at_rest, stage_of, faults, accepted, answer, book_after}
 use Rattle.book.proofs.Sound.{Ranged, Sound, GhostKept, SoundAt, SoundBook}
 use Rattle.book.specs.Laws.{OnSheet}
-use Rattle.book.proofs.Numbers.{inside, bed_inside}
+use Rattle.book.proofs.Numbers.{inside}
+use Rattle.std.proofs.lemmas.Int.{ints}
+use Rattle.std.proofs.lemmas.Bool.Decides.{nat_tests}
 use Rattle.book.proofs.Sums.{none_below, no_place}
-use Rattle.book.proofs.Grids.{grid_at, length_grid, map_at, set_at, place_below}
+use Rattle.book.proofs.Grids.{grid_at, length_grid, map_at, place_below}
 use Rattle.book.proofs.Neighbours.{hand_there, number_below, border_row, border_column}
-use Rattle.book.proofs.Judged.{NoneThere, answer_book, answer_done, answer_accepted}
+use Rattle.book.proofs.Judged.{NoneThere, answer_book, after_book, answer_done}
 use Rattle.book.proofs.Steps.{still_ranged, soaked_ranged, rained_ranged, new_ranged, not_overdrawn, stepped_exact}
 
 -- ---- cells changed, beds kept
 
 ghost_bed : (s : Side) (k l : Cell) → k.bed ≡ l.bed → GhostKept s l → GhostKept s k
-ghost_bed Wall k l e h = tt
-ghost_bed Open k l e h = tt
-ghost_bed (Held a) k l e h = subst (λ z. held_depth a z ≤ max_depth) (sym e) h
-ghost_bed (Fed a b) k l e h = h
+ghost_bed (Held a) k l e h = rw e h
+ghost_bed s k l e h = h
 
 cells_sound : (t : Table) → Sound t → (cells : List Cell) → length cells ≡ t.rows * t.columns →
     ((r c : ℕ) → r < t.rows → c < t.columns → Ranged (cell_at (with_cells t cells) r c)) →
@@ -52,31 +51,15 @@ map_sound : (t : Table) → Sound t → (f : Cell → Cell) → ((k : Cell) → 
     ((r c : ℕ) → r < t.rows → c < t.columns → Ranged (f (cell_at t r c))) → Sound (with_cells t (map f t.cells))
 map_sound t sound f bed ranged =
     cells_sound t sound (map f t.cells) (length-map t.cells f ∙ sound.sized)
-    (λ r c p q. subst Ranged (sym (map_at t.rows t.columns t.cells f r c sound.sized p q)) (ranged r c p q))
-    (λ r c p q. ap (λ (k : Cell). k.bed) (map_at t.rows t.columns t.cells f r c sound.sized p q) ∙ bed (cell_at t r c))
+    (λ r c p q. rw (map_at t.rows t.columns t.cells f r c sound.sized p q) (ranged r c p q))
+    (λ r c p q. rw (map_at t.rows t.columns t.cells f r c sound.sized p q) (bed (cell_at t r c)))
 
 -- ---- sides changed
 
-sides_sound : (t : Table) (sides : List Side) → Sound t → length sides ≡ 4 →
-    ((hand : Hand) (k : ℕ) → k < border_length t.rows t.columns hand → GhostKept (get_or sides (side_number hand) Wall) (border_cell t hand k)) →
-    Sound (with_sides t sides)
-sides_sound t sides sound four ghosts = record {
-  size = sound.size;
-  sized = sound.sized;
-  four = four;
-  ranged = sound.ranged;
-  ghosts = ghosts;
-}
-
 -- walls hold any cell
 walled : (sides : List Side) → sides ≡ four_walls → (hand : Hand) (k : Cell) → GhostKept (get_or sides (side_number hand) Wall) k
-walled sides e hand k = subst (λ xs. GhostKept (get_or xs (side_number hand) Wall) k) (sym e) (by hand)
-  where
-    by : (hand : Hand) → GhostKept (get_or four_walls (side_number hand) Wall) k
-    by West = tt
-    by East = tt
-    by South = tt
-    by North = tt
+walled sides e West k = rw e tt
+walled sides e hand k = rw e tt
 
 -- a side that a call may set
 abbrev Allowed : Side → Type 0
@@ -85,43 +68,34 @@ Allowed Open = Unit {0}
 Allowed (Held a) = Unit {0}
 Allowed (Fed a b) = (1 ≤ a) × (a ≤ max_depth) × (b ≤ max_velocity)
 
-fed_depth : (a : ℤ) → outsideℤ (pos 1) (pos max_depth) a ≡ false → (1 ≤ positive a) × (positive a ≤ max_depth)
-fed_depth (pos n) e = inside 1 max_depth n e
-fed_depth (negsuc n) e = absurd (true≢false e)
-
 side_allowed : (kind : ℕ) (a : ℤ) (b : ℕ) → side_amiss kind a b ≡ false → Allowed (side_of kind a b)
-side_allowed zero a b e = tt
-side_allowed (suc zero) a b e = tt
-side_allowed (suc (suc zero)) a b e = tt
-side_allowed (suc (suc (suc zero))) a b e =
-    let o = or_parts (outsideℤ (pos 1) (pos max_depth) a) (outside 1 max_velocity b) e in
-    let d = fed_depth a o.0 in
+side_allowed (suc (suc (suc zero))) (pos a) b e =
+    let o = or_parts (outside 1 max_depth a) (outside 1 max_velocity b) e in
+    let d = inside 1 max_depth a o.0 in
     (d.0, d.1, (inside 1 max_velocity b o.1).1)
-side_allowed (suc (suc (suc (suc n)))) a b e = absurd (true≢false e)
+side_allowed (suc (suc (suc zero))) (negsuc a) b e = cc
+side_allowed (suc (suc (suc (suc n)))) a b e = cc
+side_allowed kind a b e = tt
 
 module _ (t : Table) (sound : Sound t) (hand : Hand) (s : Side) (allowed : Allowed s) (over : held_over t hand s ≡ false) where
   -- the ghosts beyond the side that is set
   changed_ghosts : (s : Side) → Allowed s → (hand : Hand) → held_over t hand s ≡ false → (k : ℕ) → k < border_length t.rows t.columns hand →
       GhostKept s (border_cell t hand k)
-  changed_ghosts Wall a hand e k h = tt
-  changed_ghosts Open a hand e k h = tt
   changed_ghosts (Held a) _ hand e k h = ltb-false max_depth _ (none_below (border_length t.rows t.columns hand) _ e k h)
-  changed_ghosts (Fed a b) al hand e k h = al
+  changed_ghosts s al hand e k h = al
 
   set_ghosts : (other : Hand) (k : ℕ) → k < border_length t.rows t.columns other →
       GhostKept (get_or (set t.sides (side_number hand) s) (side_number other) Wall) (border_cell t other k)
-  set_ghosts other k h = ⊎_elim same apart (cases_eq (side_number other) (side_number hand))
-    where
-      same : side_number other ≡ side_number hand → GhostKept (get_or (set t.sides (side_number hand) s) (side_number other) Wall) (border_cell t other k)
-      same n =
-          let is : hand ≡ other = sym (hand_there hand) ∙ (ap hand_of (sym n) ∙ hand_there other) in
-          rw n (rw (get_or-set_same t.sides (side_number hand) s Wall (omega (arith, number_below hand, sound.four))) (changed_ghosts s allowed other (subst (λ x. held_over t x s ≡ false) is over) k h))
-
-      apart : (side_number other ≡ side_number hand → ⊥) → GhostKept (get_or (set t.sides (side_number hand) s) (side_number other) Wall) (border_cell t other k)
-      apart n = rw (get_or-set_other t.sides (side_number hand) (side_number other) s Wall n) (sound.ghosts other k h)
+  set_ghosts other k h =
+      ⊎_elim
+      (λ (n : side_number other ≡ side_number hand).
+      let is : hand ≡ other = cc (hand_there hand, hand_there other) in
+      rw (get_or-set_at t.sides (side_number hand) (side_number other) s Wall n (omega (arith, number_below hand, sound.four))) (changed_ghosts s allowed other (subst (λ x. held_over t x s ≡ false) is over) k h))
+      (λ n. rw (get_or-set_other t.sides (side_number hand) (side_number other) s Wall n) (sound.ghosts other k h))
+      (cases_eq (side_number other) (side_number hand))
 
   change_sound : Sound (with_sides t (set t.sides (side_number hand) s))
-  change_sound = sides_sound t (set t.sides (side_number hand) s) sound (length-set t.sides (side_number hand) s ∙ sound.four) set_ghosts
+  change_sound = record { size = sound.size; sized = sound.sized; four = length-set t.sides (side_number hand) s ∙ sound.four; ranged = sound.ranged; ghosts = set_ghosts }
 
 -- ---- preparing
 
@@ -130,7 +104,7 @@ blank_sound rows columns width size = record {
   size = size;
   sized = length-replicate (rows * columns) no_cell;
   four = refl;
-  ranged = λ r c p q. subst Ranged (sym (get_or-replicate (rows * columns) (r * columns + c) no_cell no_cell (place_below rows columns r c p q))) (still_ranged false (pos 0) 0 zero-le zero-le);
+  ranged = λ r c p q. rw (get_or-replicate (rows * columns) (r * columns + c) no_cell no_cell (place_below rows columns r c p q)) (still_ranged false (pos 0) 0 zero-le zero-le);
   ghosts = λ hand k h. walled four_walls refl hand _;
 }
 
@@ -140,16 +114,17 @@ lay_sound t sound walls row column bed depth bedded shallow = record {
   sized = length-set t.cells (row * t.columns + column) (fresh bed depth) ∙ sound.sized;
   four = sound.four;
   ranged = λ r c p q.
-      ⊎_elim (λ e. subst Ranged (sym e) (still_ranged true bed depth bedded shallow)) (λ e. subst Ranged (sym e) (sound.ranged r c p q))
-      (set_at t.cells (row * t.columns + column) (r * t.columns + c) (fresh bed depth) (omega (arith, place_below t.rows t.columns r c p q, sound.sized)));
+      ⊎_elim
+      (λ e. rw (get_or-set_at t.cells (row * t.columns + column) (r * t.columns + c) (fresh bed depth) no_cell e (omega (arith, place_below t.rows t.columns r c p q, sound.sized))) (still_ranged true bed depth bedded shallow))
+      (λ e. rw (get_or-set_other t.cells (row * t.columns + column) (r * t.columns + c) (fresh bed depth) no_cell e) (sound.ranged r c p q))
+      (cases_eq (r * t.columns + c) (row * t.columns + column));
   ghosts = λ hand k b. walled t.sides walls hand _;
 }
 
 open_sound : (t : Table) → Sound t → Sound (with_sides (with_cells t (map at_rest t.cells)) four_walls)
 open_sound t sound =
-    sides_sound (with_cells t (map at_rest t.cells)) four_walls
-    (map_sound t sound at_rest (λ k. refl) (λ r c p q. still_ranged (cell_at t r c).laid (cell_at t r c).bed (cell_at t r c).depth (sound.ranged r c p q).bed (sound.ranged r c p q).depth)) refl
-    (λ hand k h. walled four_walls refl hand _)
+    let s = map_sound t sound at_rest (λ k. refl) (λ r c p q. still_ranged (cell_at t r c).laid (cell_at t r c).bed (cell_at t r c).depth (sound.ranged r c p q).bed (sound.ranged r c p q).depth) in
+    record { size = s.size; sized = s.sized; four = refl; ranged = s.ranged; ghosts = λ hand k h. walled four_walls refl hand _ }
 
 -- ---- the calls
 
@@ -158,13 +133,13 @@ module _ (rules : Rules) (friction : LawfulFriction rules.slowed) where
   step_sound t sound rate e brim =
       let rate_in = inside 1 max_rate rate e in
       cells_sound t sound (grid t.rows t.columns (new_cell rules t rate)) (length_grid t.rows t.columns (new_cell rules t rate))
-      (λ r c p q. subst Ranged (sym (grid_at t.rows t.columns (new_cell rules t rate) r c p q)) (new_ranged rules friction (cell_at t r c) (face t r c) (span t rate) rate (sound.ranged r c p q) rate_in.0 rate_in.1 (brim r c p q)))
+      (λ r c p q. rw (grid_at t.rows t.columns (new_cell rules t rate) r c p q) (new_ranged rules friction (cell_at t r c) (face t r c) (span t rate) rate (sound.ranged r c p q) rate_in.0 rate_in.1 (brim r c p q)))
       (λ r c p q. ap (λ (k : Cell). k.bed) (grid_at t.rows t.columns (new_cell rules t rate) r c p q))
 
   accepted_sound : (b : Book) (x : Call) → SoundBook b → SoundAt (stage_of x) b.table → NoneThere (faults rules b x) → SoundBook (accepted rules b x).book
   accepted_sound b (Prepare rows columns width) h s n =
       (blank_sound rows columns width n.0, refl)
-  accepted_sound b (Lay row column bed depth) h s n = (lay_sound b.table s.0 s.1 row column bed depth (bed_inside bed n.1.0) (ltb-false max_depth depth n.1.1.0), s.1)
+  accepted_sound b (Lay row column bed depth) h s n = (lay_sound b.table s.0 s.1 row column bed depth (grind (arith, ints, nat_tests, n.1.0)) (ltb-false max_depth depth n.1.1.0), s.1)
   accepted_sound b Opening h s n = open_sound b.table s.0
   accepted_sound b (Step rate) h s n = step_sound b.table s rate n.0 (no_place b.table (over_brim rules b.table rate) n.1.1.0)
   accepted_sound b (Rain amount) h s n =
@@ -173,29 +148,24 @@ module _ (rules : Rules) (friction : LawfulFriction rules.slowed) where
   accepted_sound b (Soak amount) h s n = map_sound b.table s (soaked amount) (λ k. refl) (λ r c p q. soaked_ranged amount (cell_at b.table r c) (s.ranged r c p q))
   accepted_sound b (ChangeSide side kind x y) h s n =
       change_sound b.table s (hand_of side) (side_of kind x y) (side_allowed kind x y (or_parts (ltb 3 side) (side_amiss kind x y) n.0).1) n.1.0
-  accepted_sound b (AskCell row column) h s n = h
-  accepted_sound b AskAccount h s n = h
-  accepted_sound b AskStanding h s n = h
-  accepted_sound b AskSlowestRate h s n = h
   accepted_sound b Close h s n = s
+  accepted_sound b x h s n = h
+
+  pub sound_kept : (b : Book) (x : Call) → SoundBook b → b.stage ≡ stage_of x → NoneThere (faults rules b x) → SoundBook (accepted rules b x).book
+  sound_kept b x h e n = accepted_sound b x h (subst (λ s. SoundAt s b.table) e h) n
 
   pub answer_sound : (b : Book) (x : Call) → SoundBook b → SoundBook (answer rules b x).book
-  answer_sound b x h = answer_book rules SoundBook b x h (λ e n. accepted_sound b x h (subst (λ s. SoundAt s b.table) e h) n)
-
-  after_sound : (b : Book) (calls : List Call) → SoundBook b → SoundBook (after rules b calls)
-  after_sound b [] h = h
-  after_sound b (x ∷ xs) h = after_sound (answer rules b x).book xs (answer_sound b x h)
+  answer_sound b x h = answer_book rules SoundBook b x h (sound_kept b x h)
 
   pub book_sound : (calls : List Call) → SoundBook (book_after rules calls)
-  book_sound calls = after_sound empty_book calls refl
+  book_sound calls = after_book rules SoundBook sound_kept empty_book calls refl
 
 -- ---- at any stage
 
-pub ranged_at : (s : Stage) (t : Table) → SoundAt s t → (r c : ℕ) → r < t.rows → c < t.columns → Ranged (cell_at t r c)
-ranged_at start t h r c p q = let z : t.rows ≡ 0 = ap (λ (u : Table). u.rows) h in absurd (omega arith)
-ranged_at preparing t h r c p q = h.0.ranged r c p q
-ranged_at serving t h r c p q = h.ranged r c p q
-ranged_at closed t h r c p q = h.ranged r c p q
+pub sound_at : (s : Stage) (t : Table) → SoundAt s t → 0 < t.rows → Sound t
+sound_at start t h p = let z : t.rows ≡ 0 = ap (λ (u : Table). u.rows) h in absurd (omega arith)
+sound_at preparing t h p = h.0
+sound_at s t h p = h
 
 pub sound_serving : (b : Book) → b.stage ≡ serving → SoundBook b → Sound b.table
 sound_serving b e h = subst (λ s. SoundAt s b.table) e h
@@ -211,5 +181,5 @@ module _ (rules : Rules) (flux : LawfulFlux rules.water rules.push) (b : Book) (
 
   pub step_exact : (cell_at (answer rules b (Step rate)).book.table r c).depth + leaving rules b.table rate r c ≡ (cell_at b.table r c).depth + arriving rules b.table rate r c
   step_exact =
-      ap (λ (n : Book). (cell_at n.table r c).depth + leaving rules b.table rate r c) (answer_accepted rules b (Step rate) done)
+      ap (λ (n : Book). (cell_at n.table r c).depth + leaving rules b.table rate r c) (answer_done rules b (Step rate) done).2
       ∙ stepped_exact rules b.table rate r c on.0 on.1 step_overdraws_none

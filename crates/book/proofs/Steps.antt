@@ -1,5 +1,5 @@
 -- One step: no cell gives more water than it has, and what a step, rain or soaking makes of a cell is ranged.
-use Rattle.std.proofs.Common.{◌≡◌, ℕ, ◌+◌, ◌-◌, ◌*◌, ◌<◌, ◌≤◌, min, Bool, false, ltb, ℤ, pos, ◌*ℤ◌, neg_ℤ, nat_abs, refl, ap, ◌∙◌, ⊎_elim, arith}
+use Rattle.std.proofs.Common.{◌≡◌, ℕ, ◌+◌, ◌-◌, ◌*◌, ◌<◌, ◌≤◌, min, Bool, false, ltb, ℤ, pos, ◌*ℤ◌, neg_ℤ, nat_abs, refl, ⊎_elim, arith}
 use Rattle.std.proofs.lemmas.Bool.{ltb-false, lt-ltb, le-ltb, cases_lt}
 use Rattle.std.proofs.lemmas.Bool.Decides.{nat_tests}
 use Rattle.book.specs.declared.cell.Cell.{Cell}
@@ -24,10 +24,9 @@ use Rattle.book.proofs.Faces.{faces_sound, own_below}
 
 module _ (rules : Rules) (flux : LawfulFlux rules.water rules.push) where
   gives_quarter : (hand : Hand) (f : Face) (k : ℕ) → FacingBoth f → 4 * pace f ≤ k → 4 * gives rules k hand f ≤ own_depth hand f
-  gives_quarter West f k g h = rw (← quot_neg (water rules f) k) (quarter_out (neg_ℤ (water rules f)) k (pace f) f.right.depth (flux.in_bounded _ _ _ _ g.left g.right) h)
   gives_quarter East f k g h = quarter_out (water rules f) k (pace f) f.left.depth (flux.out_bounded _ _ _ _ g.left g.right) h
-  gives_quarter South f k g h = rw (← quot_neg (water rules f) k) (quarter_out (neg_ℤ (water rules f)) k (pace f) f.right.depth (flux.in_bounded _ _ _ _ g.left g.right) h)
   gives_quarter North f k g h = quarter_out (water rules f) k (pace f) f.left.depth (flux.out_bounded _ _ _ _ g.left g.right) h
+  gives_quarter hand f k g h = rw (← quot_neg (water rules f) k) (quarter_out (neg_ℤ (water rules f)) k (pace f) f.right.depth (flux.in_bounded _ _ _ _ g.left g.right) h)
 
   module _ (t : Table) (sound : Sound t) (rate : ℕ) (paced : too_slow t rate ≡ false) (r c : ℕ) (p : r < t.rows) (q : c < t.columns) where
     leaves_quarter : (hand : Hand) → 4 * leaves rules t rate r c hand ≤ (cell_at t r c).depth
@@ -36,27 +35,16 @@ module _ (rules : Rules) (flux : LawfulFlux rules.water rules.push) where
         ltb-false (span t rate) (4 * pace (face t r c hand))
         (no_hand (λ side. ltb (span t rate) (4 * pace (face t r c side)))
         (no_place t (λ y x. some_hand (λ side. ltb (span t rate) (4 * pace (face t y x side)))) paced r c p q) hand) in
-        let own = own_below t r c hand in
-        let part = gives_quarter hand (face t r c hand) (span t rate) (faces_sound t sound r c p q hand) fast in
-        omega arith
+        omega (arith, own_below t r c hand, gives_quarter hand (face t r c hand) (span t rate) (faces_sound t sound r c p q hand) fast)
 
     pub not_overdrawn : leaving rules t rate r c ≤ (cell_at t r c).depth
-    not_overdrawn =
-        let w = leaves_quarter West in
-        let e = leaves_quarter East in
-        let s = leaves_quarter South in
-        let n = leaves_quarter North in
-        omega arith
+    not_overdrawn = omega (arith, leaves_quarter West, leaves_quarter East, leaves_quarter South, leaves_quarter North)
 
 -- then nothing is cut off from the new depth
-exact : (d a l : ℕ) → l ≤ d → (d + a) - l + l ≡ d + a
-exact d a l h = omega arith
-
 pub stepped_exact : (rules : Rules) (t : Table) (rate r c : ℕ) → r < t.rows → c < t.columns → leaving rules t rate r c ≤ (cell_at t r c).depth →
     (cell_at (stepped rules t rate) r c).depth + leaving rules t rate r c ≡ (cell_at t r c).depth + arriving rules t rate r c
 stepped_exact rules t rate r c p q h =
-    ap (λ (k : Cell). k.depth + leaving rules t rate r c) (grid_at t.rows t.columns (new_cell rules t rate) r c p q)
-    ∙ exact (cell_at t r c).depth (arriving rules t rate r c) (leaving rules t rate r c) h
+    rw (grid_at t.rows t.columns (new_cell rules t rate) r c p q) (omega arith)
 
 -- ---- the brim
 
@@ -85,21 +73,17 @@ pub still_ranged : (laid : Bool) (bed : ℤ) (h : ℕ) → nat_abs bed ≤ max_b
 still_ranged laid bed h a b = record { bed = a; depth = b; dry_east = λ _. refl; dry_north = λ _. refl; slow_east = still_slow h; slow_north = still_slow h }
 
 thinned_ranged : (laid : Bool) (bed : ℤ) (h : ℕ) (e n : ℤ) → nat_abs bed ≤ max_bed → (film ≤ h → BelowBrim h e n) → Ranged (record { laid = laid; bed = bed; depth = h; east = thinned h e; north = thinned h n })
-thinned_ranged laid bed h e n a g = ⊎_elim thin deep (cases_lt h film)
-  where
-    thin : h < film → Ranged (record { laid = laid; bed = bed; depth = h; east = thinned h e; north = thinned h n })
-    thin l = rw (lt-ltb h film l) (still_ranged laid bed h a (omega (arith, film_shallow)))
-
-    deep : film ≤ h → Ranged (record { laid = laid; bed = bed; depth = h; east = thinned h e; north = thinned h n })
-    deep l =
-        rw (le-ltb h film l) (record {
-          bed = a;
-          depth = (g l).shallow;
-          dry_east = λ m. absurd (omega (arith, film_wet));
-          dry_north = λ m. absurd (omega (arith, film_wet));
-          slow_east = (g l).slow_east;
-          slow_north = (g l).slow_north;
-        })
+thinned_ranged laid bed h e n a g =
+    ⊎_elim (λ (l : h < film). rw lt-ltb (still_ranged laid bed h a (omega (arith, film_shallow))))
+    (λ (l : film ≤ h). rw le-ltb (record {
+      bed = a;
+      depth = (g l).shallow;
+      dry_east = λ m. absurd (omega (arith, film_wet));
+      dry_north = λ m. absurd (omega (arith, film_wet));
+      slow_east = (g l).slow_east;
+      slow_north = (g l).slow_north;
+    }))
+    (cases_lt h film)
 
 module _ (rules : Rules) (friction : LawfulFriction rules.slowed) where
   slowed_slow : (q : ℤ) (u h d : ℕ) → Slowing q u h d → nat_abs (velocity q h) ≤ max_velocity → nat_abs (velocity (rules.slowed q u h d) h) ≤ max_velocity

@@ -1,29 +1,29 @@
 -- Still water stays as it is.
-use Rattle.std.proofs.Common.{◌≡◌, ℕ, ◌*◌, ◌<◌, ◌≤◌, true, false, ltb, ◌⊎◌, List, [], ◌∷◌, ℤ, pos, ◌+ℤ◌, ◌-ℤ◌, ◌*ℤ◌, neg_ℤ, Some, None, Option, sym, refl, ap, ◌∙◌, subst, inl, inr, arith}
+use Rattle.std.proofs.Common.{◌≡◌, ℕ, ◌*◌, ◌<◌, ◌≤◌, true, false, ltb, ◌⊎◌, List, [], ◌∷◌, ℤ, pos, ◌-ℤ◌, neg_ℤ, Some, None, Option, sym, refl, ap, ◌∙◌, subst, inl, inr, arith}
 use Rattle.std.proofs.lemmas.Int.{ints}
-use Rattle.std.proofs.lemmas.Bool.{true≢false, false≢true, ltb-false, cond_both}
+use Rattle.std.proofs.lemmas.Bool.{ltb-false, cond_both}
 use Rattle.book.specs.declared.cell.Cell.{Cell}
 use Rattle.book.specs.declared.side.Hand.{Hand}
 use Rattle.book.specs.declared.side.Hand.TheVariants.{West, East, South, North}
 use Rattle.book.specs.declared.side.Side.{Side}
-use Rattle.book.specs.declared.side.Side.TheVariants.{Wall, Open, Held, Fed}
+use Rattle.book.specs.declared.side.Side.TheVariants.{Wall, Fed}
 use Rattle.book.specs.declared.account.Passed.{Passed}
 use Rattle.book.specs.declared.account.Account.{Account}
 use Rattle.book.specs.declared.call.Call.{Call}
-use Rattle.book.specs.declared.call.Call.TheVariants.{Prepare, Lay, Open as Opening, Step, Rain, Soak, ChangeSide, AskCell, AskAccount, AskStanding, AskSlowestRate, Close}
+use Rattle.book.specs.declared.call.Call.TheVariants.{Step}
 use Rattle.rules.specs.Flux.{LawfulFlux}
 use Rattle.rules.specs.Friction.{LawfulFriction}
-use Rattle.rules.specs.Side.{Facing, discharge, momentum}
+use Rattle.rules.specs.Side.{discharge, momentum}
 use Rattle.book.specs.Ranges.{max_rate}
-use Rattle.book.specs.Numbers.{film, thinned, share, greater}
-use Rattle.book.specs.Faces.{Column, Face, column, ghost, above, meet, face_of, own_depth}
-use Rattle.book.specs.Step.{Rules, thrust, speed, water, push, carried, pressed, east_thrust, north_thrust, depth_after, raw_east, raw_north, cell_after}
+use Rattle.book.specs.Numbers.{film, thinned, share}
+use Rattle.book.specs.Faces.{Column, Face, column, ghost, meet, face_of, own_depth}
+use Rattle.book.specs.Step.{Rules, speed, water, push, carried, pressed, east_thrust, north_thrust, depth_after, raw_east, raw_north, cell_after}
 use Rattle.book.specs.Sheets.{Table, Place, cell_at, side_at, span, neighbour, seen, beyond, face, new_cell, grid, with_cells}
 use Rattle.book.specs.Accounts.{passed_by, account_after_step}
 use Rattle.book.specs.Calls.{Book, serving, faults, accepted, answer, after, book_after}
 use Rattle.book.proofs.Sound.{Ranged, Sound, FacingBoth}
 use Rattle.book.specs.Laws.{Still, Quiet, step_or_question, fed, Refuses}
-use Rattle.book.proofs.Numbers.{abs_zero, share_zero, velocity_zero, where_wet_zero, still_slow, carried_none, inside}
+use Rattle.book.proofs.Numbers.{share_zero, velocity_zero, where_wet_zero, still_slow, carried_none, inside}
 use Rattle.book.proofs.Grids.{grid_from}
 use Rattle.book.proofs.Neighbours.{Stands, stands, border_row, border_column}
 use Rattle.book.proofs.Faces.{faces_sound}
@@ -43,15 +43,6 @@ weight_only : (d : ℕ) → momentum d (pos 0) ≡ pos (981 * (d * d))
 unfolding momentum
 weight_only d = omega (arith, ints)
 
-held_back : (p : ℤ) (o d h : ℕ) → p ≡ pos (981 * (d * d)) → o ≡ d → p +ℤ (pos 981 *ℤ (pos (h * h) -ℤ pos (o * o))) ≡ pos (981 * (h * h))
-held_back p o d h e f = rw (e, f) (balance (h * h) (d * d))
-  where
-    balance : (a b : ℕ) → pos (981 * b) +ℤ (pos 981 *ℤ (pos a -ℤ pos b)) ≡ pos (981 * a)
-    balance a b = omega (arith, ints)
-
-no_thrust : (a b x y p : ℤ) → a ≡ p → b ≡ p → x ≡ pos 0 → y ≡ pos 0 → thrust a b x y ≡ pos 0
-no_thrust a b x y p d e f g = omega (arith, ints)
-
 no_change : (q z : ℤ) (k : ℕ) → q ≡ pos 0 → z ≡ pos 0 → q -ℤ share z k ≡ pos 0
 no_change q z k e f = rw (e, f, share_zero) refl
 
@@ -67,29 +58,17 @@ record Level (f : Face) : Type 0 where
   facing : FacingBoth f
 
 module _ (rules : Rules) (flux : LawfulFlux rules.water rules.push) where
-  level_water : (dl : ℕ) (nl : ℤ) (dr : ℕ) (nr : ℤ) → Facing dl nl → dl ≡ dr → nl ≡ pos 0 → nr ≡ pos 0 → rules.water dl nl dr nr ≡ pos 0
-  level_water dl nl dr nr f e p q =
-      let g : Facing dl (pos 0) = rw p at f in
-      cc (flux.even_water dl (pos 0) g, no_discharge dl)
-
-  level_push : (dl : ℕ) (nl : ℤ) (dr : ℕ) (nr : ℤ) → Facing dl nl → dl ≡ dr → nl ≡ pos 0 → nr ≡ pos 0 → rules.push dl nl dr nr ≡ pos (981 * (dl * dl))
-  level_push dl nl dr nr f e p q =
-      let g : Facing dl (pos 0) = rw p at f in
-      cc (flux.even_push dl (pos 0) g, weight_only dl)
-
   no_water : (f : Face) → Level f → water rules f ≡ pos 0
-  no_water f l = level_water f.left.depth f.left.normal f.right.depth f.right.normal l.facing.left l.even l.calm.left_normal l.calm.right_normal
+  no_water f l = cc (flux.even_water f.left.depth f.left.normal l.facing.left, no_discharge f.left.depth)
 
   own_left : (hand : Hand) (f : Face) → Level f → own_depth hand f ≡ f.left.depth
-  own_left West f l = sym l.even
-  own_left East f l = refl
-  own_left South f l = sym l.even
-  own_left North f l = refl
+  own_left West f l = cc
+  own_left hand f l = cc
 
   level_pressed : (h : ℕ) (hand : Hand) (f : Face) → Level f → pressed rules h hand f ≡ pos (981 * (h * h))
   level_pressed h hand f l =
-      held_back (push rules f) (own_depth hand f) f.left.depth h
-      (level_push f.left.depth f.left.normal f.right.depth f.right.normal l.facing.left l.even l.calm.left_normal l.calm.right_normal) (own_left hand f l)
+      let e : push rules f ≡ pos (981 * (f.left.depth * f.left.depth)) = cc (flux.even_push f.left.depth f.left.normal l.facing.left, weight_only f.left.depth) in
+      rw (own_left hand f l) (omega (arith, ints))
 
   none_carried : (f : Face) → Level f → carried rules f ≡ pos 0
   none_carried f l = carried_none (water rules f) f.left.along f.right.along (no_water f l)
@@ -97,70 +76,53 @@ module _ (rules : Rules) (flux : LawfulFlux rules.water rules.push) where
   module _ (friction : LawfulFriction rules.slowed) (cell : Cell) (faces : Hand → Face) (level : (hand : Hand) → Level (faces hand)) (still_east : cell.east ≡ pos 0) (still_north : cell.north ≡ pos 0) (k : ℕ) where
     same_depth : depth_after rules cell faces k ≡ cell.depth
     same_depth =
-        let a = none_gives rules k (faces West) (no_water (faces West) (level West)) West in
-        let b = none_gives rules k (faces East) (no_water (faces East) (level East)) East in
-        let c = none_gives rules k (faces South) (no_water (faces South) (level South)) South in
-        let d = none_gives rules k (faces North) (no_water (faces North) (level North)) North in
-        let e = none_takes rules k (faces West) (no_water (faces West) (level West)) West in
-        let f = none_takes rules k (faces East) (no_water (faces East) (level East)) East in
-        let g = none_takes rules k (faces South) (no_water (faces South) (level South)) South in
-        let h = none_takes rules k (faces North) (no_water (faces North) (level North)) North in
-        omega arith
+        let g = λ (hand : Hand). none_gives rules k (faces hand) (no_water (faces hand) (level hand)) hand in
+        let t = λ (hand : Hand). none_takes rules k (faces hand) (no_water (faces hand) (level hand)) hand in
+        omega (arith, g West, g East, g South, g North, t West, t East, t South, t North)
 
     no_raw_east : raw_east rules cell faces k ≡ pos 0
     no_raw_east =
         no_change cell.east (east_thrust rules cell faces) (20 * k) still_east
-        (no_thrust _ _ _ _ _ (level_pressed cell.depth East (faces East) (level East)) (level_pressed cell.depth West (faces West) (level West)) (none_carried (faces North) (level North)) (none_carried (faces South) (level South)))
+        (omega (arith, ints, level_pressed cell.depth East (faces East) (level East), level_pressed cell.depth West (faces West) (level West), none_carried (faces North) (level North), none_carried (faces South) (level South)))
 
     no_raw_north : raw_north rules cell faces k ≡ pos 0
     no_raw_north =
         no_change cell.north (north_thrust rules cell faces) (20 * k) still_north
-        (no_thrust _ _ _ _ _ (level_pressed cell.depth North (faces North) (level North)) (level_pressed cell.depth South (faces South) (level South)) (none_carried (faces East) (level East)) (none_carried (faces West) (level West)))
+        (omega (arith, ints, level_pressed cell.depth North (faces North) (level North), level_pressed cell.depth South (faces South) (level South), none_carried (faces East) (level East), none_carried (faces West) (level West)))
 
     module _ (ranged : Ranged cell) (rate : ℕ) (low : 1 ≤ rate) (high : rate ≤ max_rate) where
       no_flow : (h : ℕ) (q : ℤ) → h ≡ cell.depth → q ≡ pos 0 → thinned h (rules.slowed q (speed cell) h rate) ≡ pos 0
       no_flow h q e f =
           rw f
           (cond_both (ltb h film) (pos 0) (rules.slowed (pos 0) (speed cell) h rate) (λ z. z ≡ pos 0) (λ _. refl)
-          (λ deep. abs_zero (rules.slowed (pos 0) (speed cell) h rate) (friction.no_larger (pos 0) (speed cell) h rate (slowing cell ranged rate low high h (ltb-false h film deep) (omega (arith, ranged.depth)) (pos 0) (still_slow h)))))
+          (λ deep. omega (arith, ints, friction.no_larger (pos 0) (speed cell) h rate (slowing cell ranged rate low high h (ltb-false h film deep) (omega (arith, ranged.depth)) (pos 0) (still_slow h)))))
 
       same_cell : cell_after rules cell faces k rate ≡ cell
       same_cell =
-          let east : thinned (depth_after rules cell faces k) (rules.slowed (raw_east rules cell faces k) (speed cell) (depth_after rules cell faces k) rate) ≡ cell.east = no_flow (depth_after rules cell faces k) (raw_east rules cell faces k) same_depth no_raw_east ∙ sym still_east in
-          let north : thinned (depth_after rules cell faces k) (rules.slowed (raw_north rules cell faces k) (speed cell) (depth_after rules cell faces k) rate) ≡ cell.north = no_flow (depth_after rules cell faces k) (raw_north rules cell faces k) same_depth no_raw_north ∙ sym still_north in
+          let east = no_flow (depth_after rules cell faces k) (raw_east rules cell faces k) same_depth no_raw_east ∙ sym still_east in
+          let north = no_flow (depth_after rules cell faces k) (raw_north rules cell faces k) same_depth no_raw_north ∙ sym still_north in
           λ i. record { laid = cell.laid; bed = cell.bed; depth = same_depth i; east = east i; north = north i }
 
 -- ---- the faces of a still table
 
-column_still : (hand : Hand) (k : Cell) → k.east ≡ pos 0 → k.north ≡ pos 0 → (column hand k).normal ≡ pos 0
-column_still West k e n = rw e (velocity_zero k.depth)
-column_still East k e n = rw e (velocity_zero k.depth)
-column_still South k e n = rw n (velocity_zero k.depth)
-column_still North k e n = rw n (velocity_zero k.depth)
-
 ghost_still : (s : Side) (hand : Hand) (k : Column) → fed s ≡ false → k.normal ≡ pos 0 → (ghost s hand k).normal ≡ pos 0
 ghost_still Wall hand k u n = ap neg_ℤ n
-ghost_still Open hand k u n = n
-ghost_still (Held a) hand k u n = n
-ghost_still (Fed a b) hand k u n = absurd (true≢false u)
-
-side_still : (b : ℤ) (k : Column) → k.normal ≡ pos 0 → (above b k).normal ≡ pos 0
-side_still b k n = rw n (where_wet_zero (above b k).depth)
+ghost_still (Fed a b) hand k u n = cc
+ghost_still s hand k u n = n
 
 meet_still : (l r : Column) → l.normal ≡ pos 0 → r.normal ≡ pos 0 → Calm (meet l r)
-meet_still l r p q =
-    let b : ℤ = greater l.bed r.bed in
-    record { left_normal = side_still b l p; right_normal = side_still b r q }
+meet_still l r p q = record { left_normal = rw p (where_wet_zero _); right_normal = rw q (where_wet_zero _) }
 
 face_still : (hand : Hand) (own far : Column) → own.normal ≡ pos 0 → far.normal ≡ pos 0 → Calm (face_of hand own far)
 face_still West own far p q = meet_still far own q p
-face_still East own far p q = meet_still own far p q
 face_still South own far p q = meet_still far own q p
-face_still North own far p q = meet_still own far p q
+face_still hand own far p q = meet_still own far p q
 
 module _ (t : Table) (still : Still t) (sound : Sound t) where
   own_still : (r c : ℕ) → r < t.rows → c < t.columns → (hand : Hand) → (column hand (cell_at t r c)).normal ≡ pos 0
-  own_still r c h k hand = column_still hand (cell_at t r c) (still.east_still r c (h, k)) (still.north_still r c (h, k))
+  own_still r c h k West = cc (still.east_still r c (h, k), velocity_zero (cell_at t r c).depth)
+  own_still r c h k East = cc (still.east_still r c (h, k), velocity_zero (cell_at t r c).depth)
+  own_still r c h k hand = cc (still.north_still r c (h, k), velocity_zero (cell_at t r c).depth)
 
   seen_still : (r c : ℕ) → r < t.rows → c < t.columns → (hand : Hand) (o : Option Place) → Stands t r c hand o → (seen t r c hand o).normal ≡ pos 0
   seen_still r c h k hand (Some p) s = own_still p.row p.column s.0 s.1 hand
@@ -191,22 +153,12 @@ module _ (rules : Rules) (flux : LawfulFlux rules.water rules.push) (friction : 
 
   module _ (b : Book) (serves : b.stage ≡ serving) (still : Still b.table) (sound : Sound b.table) where
     accepted_leaves : (x : Call) → step_or_question x ≡ true → NoneThere (faults rules b x) → (accepted rules b x).book ≡ b
-    accepted_leaves (Prepare rows columns width) e n = absurd (false≢true e)
-    accepted_leaves (Lay row column bed depth) e n = absurd (false≢true e)
-    accepted_leaves Opening e n = absurd (false≢true e)
     accepted_leaves (Step rate) e n =
         let w = inside 1 max_rate rate n.0 in
         let cells = same_cells b.table still sound rate w.0 w.1 in
         let account = same_account b.table still sound rate b.account in
         λ i. record { stage = sym serves i; table = with_cells b.table (cells i); account = account i }
-    accepted_leaves (Rain amount) e n = absurd (false≢true e)
-    accepted_leaves (Soak amount) e n = absurd (false≢true e)
-    accepted_leaves (ChangeSide side kind x y) e n = absurd (false≢true e)
-    accepted_leaves (AskCell row column) e n = refl
-    accepted_leaves AskAccount e n = refl
-    accepted_leaves AskStanding e n = refl
-    accepted_leaves AskSlowestRate e n = refl
-    accepted_leaves Close e n = absurd (false≢true e)
+    accepted_leaves x e n = cc
 
     quiet_leaves : (x : Call) → (step_or_question x ≡ true) ⊎ Refuses rules b x → (answer rules b x).book ≡ b
     quiet_leaves x (inl e) = answer_book rules (λ z. z ≡ b) b x refl (λ _ n. accepted_leaves x e n)

@@ -1,8 +1,9 @@
 -- Sums and tests over the numbers below n, over the places of a sheet and over the four hands; the numbers below n mirrored.
-use Rattle.std.proofs.Common.{◌≡◌, ℕ, zero, suc, ◌+◌, ◌-◌, ◌*◌, ◌<◌, ◌≤◌, Bool, true, false, ◌||◌, ltb, sym, refl, ap, ◌∙◌, subst, ap₂, inl, inr, add_assoc, add_comm, zero-add, arith}
-use Rattle.std.proofs.lemmas.Bool.{lt-ltb, cond-true, cases_lt, or_parts}
+use Rattle.std.proofs.Common.{◌≡◌, ℕ, zero, suc, ◌+◌, ◌-◌, ◌*◌, ◌<◌, ◌≤◌, Bool, false, ◌||◌, sym, refl, ap, ◌∙◌, subst, ap₂, ⊎_elim, add_assoc, add_comm, zero-add, arith}
+use Rattle.std.proofs.Math.Bool.{or_assoc, or_comm}
+use Rattle.std.proofs.lemmas.Bool.{lt-ltb, cases_lt, or_parts}
 use Rattle.book.specs.declared.side.Hand.{Hand}
-use Rattle.book.specs.declared.side.Hand.TheVariants.{West, East, South, North}
+use Rattle.book.specs.declared.side.Hand.TheVariants.{West}
 use Rattle.book.specs.declared.turn.Turn.{Turn}
 use Rattle.book.specs.declared.turn.Turn.TheVariants.{EastWest, SouthNorth, RowsColumns}
 use Rattle.book.specs.Sheets.{Table, Place, sum_below, some_below, some_place, some_hand}
@@ -11,7 +12,7 @@ use Rattle.book.specs.Turns.{mirrored, turned_rows, turned_columns, turned_place
 -- ---- mirrored numbers
 
 pub mirrored_in : (n k : ℕ) → k < n → mirrored n k ≡ n - 1 - k
-mirrored_in n k h = cond-true (ltb k n) (n - 1 - k) k (lt-ltb k n h)
+mirrored_in n k h = rw lt-ltb
 
 pub mirrored_below : (n k : ℕ) → k < n → mirrored n k < n
 mirrored_below n k h = omega (arith, mirrored_in n k h)
@@ -29,13 +30,13 @@ module _ {A : Type 0} (e : A) (op : A → A → A) (B : ℕ → (ℕ → A) → 
     (none : (f : ℕ → A) → B zero f ≡ e) (more : (n : ℕ) (f : ℕ → A) → B (suc n) f ≡ op (B n f) (f n))
     (left : (x : A) → op e x ≡ x) (assoc : (x y z : A) → op (op x y) z ≡ op x (op y z)) (comm : (x y : A) → op x y ≡ op y x) where
   below_same : (n : ℕ) (f g : ℕ → A) → ((k : ℕ) → k < n → f k ≡ g k) → B n f ≡ B n g
-  below_same zero f g h = none f ∙ sym (none g)
-  below_same (suc n) f g h = more n f ∙ (ap₂ op (below_same n f g (λ k l. h k (omega arith))) (h n (omega arith)) ∙ sym (more n g))
+  below_same zero f g h = cc (none f, none g)
+  below_same (suc n) f g h = cc (more n f, below_same n f g (λ k l. h k (omega arith)), h n (omega arith), more n g)
 
   -- the first taken out at the front
   below_front : (n : ℕ) (f : ℕ → A) → B (suc n) f ≡ op (f 0) (B n (λ k. f (suc k)))
-  below_front zero f = more 0 f ∙ (ap (λ x. op x (f 0)) (none f) ∙ (comm e (f 0) ∙ ap (op (f 0)) (sym (none (λ k. f (suc k))))))
-  below_front (suc n) f = more (suc n) f ∙ (ap (λ x. op x (f (suc n))) (below_front n f) ∙ (assoc (f 0) (B n (λ k. f (suc k))) (f (suc n)) ∙ ap (op (f 0)) (sym (more n (λ k. f (suc k))))))
+  below_front zero f = cc (more 0 f, none f, comm e (f 0), none (λ k. f (suc k)))
+  below_front (suc n) f = cc (more (suc n) f, below_front n f, assoc (f 0) (B n (λ k. f (suc k))) (f (suc n)), more n (λ k. f (suc k)))
 
   below_mirrored : (n : ℕ) (f : ℕ → A) → B n (λ k. f (mirrored n k)) ≡ B n f
   below_mirrored zero f = none (λ k. f (mirrored zero k)) ∙ sym (none f)
@@ -43,47 +44,37 @@ module _ {A : Type 0} (e : A) (op : A → A → A) (B : ℕ → (ℕ → A) → 
       below_front n (λ k. f (mirrored (suc n) k))
       ∙ (ap₂ op
       (ap f (mirrored_in (suc n) 0 (omega arith) ∙ omega arith))
-      (below_same n (λ k. f (mirrored (suc n) (suc k))) (λ k. f (mirrored n k)) (λ k l. ap f (mirrored_in (suc n) (suc k) (omega arith) ∙ omega (arith, mirrored_in n k l)))
+      (below_same n _ _ (λ k l. ap f (mirrored_in (suc n) (suc k) (omega arith) ∙ omega (arith, mirrored_in n k l)))
       ∙ below_mirrored n f)
       ∙ (comm (f n) (B n f) ∙ sym (more n f)))
 
   below_op : (n : ℕ) (f g : ℕ → A) → B n (λ k. op (f k) (g k)) ≡ op (B n f) (B n g)
-  below_op zero f g = none (λ k. op (f k) (g k)) ∙ (sym (left e) ∙ ap₂ op (sym (none f)) (sym (none g)))
-  below_op (suc n) f g =
-      more n (λ k. op (f k) (g k)) ∙ (ap (λ x. op x (op (f n) (g n))) (below_op n f g)
-      ∙ (shuffle (B n f) (B n g) (f n) (g n) ∙ ap₂ op (sym (more n f)) (sym (more n g))))
+  below_op zero f g = cc (none (λ k. op (f k) (g k)), left e, none f, none g)
+  below_op (suc n) f g = cc (more n (λ k. op (f k) (g k)), below_op n f g, shuffle (B n f) (B n g) (f n) (g n), more n f, more n g)
     where
       shuffle : (a b c d : A) → op (op a b) (op c d) ≡ op (op a c) (op b d)
-      shuffle a b c d = assoc a b (op c d) ∙ (ap (op a) (sym (assoc b c d) ∙ (ap (λ x. op x d) (comm b c) ∙ assoc c b d)) ∙ sym (assoc a c (op b d)))
+      shuffle a b c d = cc (assoc a b (op c d), assoc b c d, comm b c, assoc c b d, assoc a c (op b d))
 
   below_nothing : (n : ℕ) → B n (λ k. e) ≡ e
   below_nothing zero = none (λ k. e)
-  below_nothing (suc n) = more n (λ k. e) ∙ (ap (λ x. op x e) (below_nothing n) ∙ left e)
+  below_nothing (suc n) = cc (more n (λ k. e), below_nothing n, left e)
 
   below_swapped : (m n : ℕ) (f : ℕ → ℕ → A) → B m (λ r. B n (λ c. f r c)) ≡ B n (λ c. B m (λ r. f r c))
-  below_swapped zero n f = none (λ r. B n (λ c. f r c)) ∙ (sym (below_nothing n) ∙ below_same n (λ c. e) (λ c. B zero (λ r. f r c)) (λ c l. sym (none (λ r. f r c))))
+  below_swapped zero n f = none (λ r. B n (λ c. f r c)) ∙ (sym (below_nothing n) ∙ below_same n _ _ (λ c l. sym (none (λ r. f r c))))
   below_swapped (suc m) n f =
       more m (λ r. B n (λ c. f r c))
       ∙ (ap (λ x. op x (B n (λ c. f m c))) (below_swapped m n f)
-      ∙ (sym (below_op n (λ c. B m (λ r. f r c)) (λ c. f m c))
-      ∙ below_same n (λ c. op (B m (λ r. f r c)) (f m c)) (λ c. B (suc m) (λ r. f r c)) (λ c l. sym (more m (λ r. f r c)))))
+      ∙ (sym (below_op n (λ c. B m (λ r. f r c)) (f m))
+      ∙ below_same n _ _ (λ c l. sym (more m (λ r. f r c)))))
 
   -- over the places of a turned sheet
   places_turned : (τ : Turn) (rows columns : ℕ) (f g : ℕ → ℕ → A) →
       ((r c : ℕ) → r < turned_rows τ rows columns → c < turned_columns τ rows columns →
       f r c ≡ g (came_from τ rows columns r c).row (came_from τ rows columns r c).column) →
       B (turned_rows τ rows columns) (λ r. B (turned_columns τ rows columns) (λ c. f r c)) ≡ B rows (λ r. B columns (λ c. g r c))
-  places_turned EastWest rows columns f g h =
-      below_same rows (λ r. B columns (λ c. f r c)) (λ r. B columns (λ c. g r c)) (λ r l.
-      below_same columns (λ c. f r c) (λ c. g r (mirrored columns c)) (λ c m. h r c l m) ∙ below_mirrored columns (λ c. g r c))
-  places_turned SouthNorth rows columns f g h =
-      below_same rows (λ r. B columns (λ c. f r c)) (λ r. B columns (λ c. g (mirrored rows r) c)) (λ r l.
-      below_same columns (λ c. f r c) (λ c. g (mirrored rows r) c) (λ c m. h r c l m))
-      ∙ below_mirrored rows (λ r. B columns (λ c. g r c))
-  places_turned RowsColumns rows columns f g h =
-      below_same columns (λ r. B rows (λ c. f r c)) (λ r. B rows (λ c. g c r)) (λ r l.
-      below_same rows (λ c. f r c) (λ c. g c r) (λ c m. h r c l m))
-      ∙ below_swapped columns rows (λ r c. g c r)
+  places_turned EastWest rows columns f g h = below_same rows _ _ (λ r l. below_same columns _ _ (λ c m. h r c l m) ∙ below_mirrored columns (g r))
+  places_turned SouthNorth rows columns f g h = below_same rows _ _ (λ r l. below_same columns _ _ (λ c m. h r c l m)) ∙ below_mirrored rows (λ r. B columns (λ c. g r c))
+  places_turned RowsColumns rows columns f g h = below_same columns _ _ (λ r l. below_same rows _ _ (λ c m. h r c l m)) ∙ below_swapped columns rows (λ r c. g c r)
 
 -- ---- sums
 
@@ -114,15 +105,13 @@ sum_turned = places_turned 0 ◌+◌ sum_below (λ f. refl) (λ n f. refl) zero-
 
 -- over all places
 pub total_same : (rows columns : ℕ) (f g : ℕ → ℕ → ℕ) → ((r c : ℕ) → r < rows → c < columns → f r c ≡ g r c) → sum_below rows (λ r. sum_below columns (λ c. f r c)) ≡ sum_below rows (λ r. sum_below columns (λ c. g r c))
-total_same rows columns f g h = sum_same rows (λ r. sum_below columns (λ c. f r c)) (λ r. sum_below columns (λ c. g r c)) (λ r p. sum_same columns (λ c. f r c) (λ c. g r c) (λ c q. h r c p q))
+total_same rows columns f g h = sum_same rows _ _ (λ r p. sum_same columns _ _ (λ c q. h r c p q))
 
 pub total_add : (rows columns : ℕ) (f g : ℕ → ℕ → ℕ) → sum_below rows (λ r. sum_below columns (λ c. f r c + g r c)) ≡ sum_below rows (λ r. sum_below columns (λ c. f r c)) + sum_below rows (λ r. sum_below columns (λ c. g r c))
-total_add rows columns f g =
-    sum_same rows (λ r. sum_below columns (λ c. f r c + g r c)) (λ r. sum_below columns (λ c. f r c) + sum_below columns (λ c. g r c)) (λ r p. sum_add columns (λ c. f r c) (λ c. g r c))
-    ∙ sum_add rows (λ r. sum_below columns (λ c. f r c)) (λ r. sum_below columns (λ c. g r c))
+total_add rows columns f g = sum_same rows _ _ (λ r p. sum_add columns (f r) (g r)) ∙ sum_add rows (λ r. sum_below columns (λ c. f r c)) (λ r. sum_below columns (λ c. g r c))
 
 pub total_even : (rows columns n : ℕ) → sum_below rows (λ r. sum_below columns (λ c. n)) ≡ rows * (columns * n)
-total_even rows columns n = sum_same rows (λ r. sum_below columns (λ c. n)) (λ r. columns * n) (λ r p. sum_even columns n) ∙ sum_even rows (columns * n)
+total_even rows columns n = sum_same rows _ _ (λ r p. sum_even columns n) ∙ sum_even rows (columns * n)
 
 -- ---- what enters and leaves the cells of a sheet over their faces: within the sheet it cancels
 
@@ -132,10 +121,7 @@ telescope : (n : ℕ) (ai ao li lo : ℕ → ℕ)
     → sum_below (suc n) (λ k. ai k + ao k) + (li 0 + lo n) ≡ sum_below (suc n) (λ k. li k + lo k) + (ai 0 + ao n)
 telescope zero ai ao li lo h g = omega arith
 telescope (suc n) ai ao li lo h g =
-    let before = telescope n ai ao li lo (λ k b. h k (omega arith)) (λ k b. g k (omega arith)) in
-    let x : ai (suc n) ≡ lo n = h n (omega arith) in
-    let y : li (suc n) ≡ ao n = g n (omega arith) in
-    omega arith
+    omega (arith, telescope n ai ao li lo (λ k b. h k (omega arith)) (λ k b. g k (omega arith)), h n (omega arith), g n (omega arith))
 
 row_cancels : (n : ℕ) → 1 ≤ n → (ai ao li lo : ℕ → ℕ)
     → ((k : ℕ) → suc k < n → ai (suc k) ≡ lo k) → ((k : ℕ) → suc k < n → li (suc k) ≡ ao k)
@@ -187,16 +173,6 @@ module _ (m n : ℕ) (rows_some : 1 ≤ m) (columns_some : 1 ≤ n) (old new iw 
 
 -- ---- tests
 
-or_assoc : (x y z : Bool) → ((x || y) || z) ≡ (x || (y || z))
-or_assoc true y z = refl
-or_assoc false y z = refl
-
-pub or_comm : (x y : Bool) → (x || y) ≡ (y || x)
-or_comm true true = refl
-or_comm true false = refl
-or_comm false true = refl
-or_comm false false = refl
-
 pub some_same : (n : ℕ) (f g : ℕ → Bool) → ((k : ℕ) → k < n → f k ≡ g k) → some_below n f ≡ some_below n g
 some_same = below_same false ◌||◌ some_below (λ f. refl) (λ n f. refl) (λ x. refl) or_assoc or_comm
 
@@ -213,16 +189,11 @@ pub none_below : (n : ℕ) (p : ℕ → Bool) → some_below n p ≡ false → (
 none_below zero p e k h = absurd (omega arith)
 none_below (suc n) p e k h =
     let parts = or_parts (some_below n p) (p n) e in
-    elim (cases_lt k n) [
-      | inl l ↦ none_below n p parts.0 k l
-      | inr l ↦ let q : n ≡ k = omega arith in subst (λ j. p j ≡ false) q parts.1
-    ]
+    ⊎_elim (λ l. none_below n p parts.0 k l) (λ l. subst (λ j. p j ≡ false) (omega arith) parts.1) (cases_lt k n)
 
 pub no_place : (t : Table) (p : ℕ → ℕ → Bool) → some_place t p ≡ false → (r c : ℕ) → r < t.rows → c < t.columns → p r c ≡ false
 no_place t p e r c h g = none_below t.columns (λ x. p r x) (none_below t.rows (λ y. some_below t.columns (λ x. p y x)) e r h) c g
 
 pub no_hand : (p : Hand → Bool) → some_hand p ≡ false → (hand : Hand) → p hand ≡ false
-no_hand p e West = (or_parts (p West) _ (or_parts (p West || p East) _ e).0).0
-no_hand p e East = (or_parts (p West) _ (or_parts (p West || p East) _ e).0).1
-no_hand p e South = (or_parts (p South) _ (or_parts (p West || p East) _ e).1).0
-no_hand p e North = (or_parts (p South) _ (or_parts (p West || p East) _ e).1).1
+no_hand p e West = grind (arith, or_parts)
+no_hand p e hand = grind (arith, or_parts)

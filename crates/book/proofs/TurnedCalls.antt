@@ -1,59 +1,43 @@
 -- One call: the turned book answers the turned call as the book answers the call, turned.
-use Rattle.std.proofs.Common.{◌≡◌, ℕ, ◌+◌, ◌*◌, ◌<◌, min, Bool, true, false, cond, not, ◌||◌, eqb, ltb, List, [], ◌∷◌, set, Some, None, sym, refl, ap, ◌∙◌, subst, ap₂, inl, inr, arith}
-use Rattle.std.proofs.lemmas.Bool.{or_parts}
+use Rattle.std.proofs.Common.{◌≡◌, ℕ, ◌+◌, ◌*◌, ◌<◌, min, true, false, not, ltb, List, [], ◌∷◌, set, sym, refl, ap, ◌∙◌, subst, ⊎_elim}
+use Rattle.std.proofs.lemmas.Bool.{or_parts, cases_Bool}
 use Rattle.book.specs.declared.call.Call.{Call}
-use Rattle.book.specs.declared.call.Call.TheVariants.{Prepare, Lay, Open as Opening, Step, Rain, Soak, ChangeSide, AskCell, AskAccount, AskStanding, AskSlowestRate, Close}
-use Rattle.book.specs.declared.refusal.Refusal.TheVariants.{OutOfStage}
-use Rattle.book.specs.declared.reply.Reply.TheVariants.{Done, Refused, CellIs, StandingIs, RateIs}
+use Rattle.book.specs.declared.call.Call.TheVariants.{Prepare, Lay, Open as Opening, Step, Rain, Soak, ChangeSide, AskCell, AskStanding, AskSlowestRate}
+use Rattle.book.specs.declared.reply.Reply.TheVariants.{Done, RateIs}
 use Rattle.rules.specs.Flux.{LawfulFlux}
 use Rattle.rules.specs.Friction.{LawfulFriction}
 use Rattle.book.specs.declared.turn.Turn.{Turn}
 use Rattle.book.specs.Ranges.{max_depth, max_rate}
 use Rattle.book.specs.Step.{Rules}
-use Rattle.book.specs.Sheets.{Place, cell_at, side_number, with_cells, with_sides, off_sheet, standing}
-use Rattle.book.specs.Accounts.{full, poured_only, rain_more, soak_more, account_after_step}
-use Rattle.book.specs.Calls.{Book, Stage, start, preparing, serving, Page, Fault, unchanged, on_page, soaked_away, fresh, at_rest, rained, soaked, hand_of, side_of, side_amiss, held_over, stage_of, stage_number, fits, judged, faults, accepted, answer, rained_on}
-use Rattle.book.specs.Turns.{turned_hand, turned_cell, turned_table, turned_account, turned_call, turned_asked, turned_reply, turned_book}
+use Rattle.book.specs.Sheets.{cell_at, side_number, with_cells, with_sides, off_sheet, standing}
+use Rattle.book.specs.Accounts.{full, poured_only, rain_more, soak_more}
+use Rattle.book.specs.Calls.{Book, start, preparing, serving, Page, Fault, unchanged, on_page, soaked_away, fresh, at_rest, rained, soaked, hand_of, side_of, side_amiss, stage_of, fits, judged, faults, accepted, answer, rained_on}
+use Rattle.book.specs.Turns.{turned_hand, turned_table, turned_account, turned_call, turned_reply, turned_book}
 use Rattle.book.proofs.Sound.{SoundAt, SoundBook}
 use Rattle.book.specs.Laws.{OfSize}
 use Rattle.book.proofs.Numbers.{inside}
 use Rattle.book.proofs.Sums.{sum_turned, some_turned}
 use Rattle.book.proofs.Judged.{NoneThere, stage_is}
 use Rattle.book.proofs.TurnedFaces.{wide, cell_turned}
-use Rattle.book.proofs.TurnedTables.{hand_twice, sent, sent_row, sent_column, came_sent, depth_came, laid_came, standing_turned, mapped_turned, laid_turned, blank_turned, walls_turned, sides_set, held_turned}
+use Rattle.book.proofs.TurnedTables.{hand_twice, sent, sent_row, sent_column, came_sent, depth_came, laid_kept, standing_turned, mapped_turned, laid_turned, blank_turned, walls_turned, sides_set, held_turned}
 use Rattle.book.proofs.TurnedSteps.{too_slow_turned, slowest_turned, brim_passed_turned, step_cells, step_account}
 use Rattle.book.proofs.TurnedWords.{full_turned, poured_turned, rain_turned, soak_turned, fresh_turned, rest_turned, rained_turned, soaked_turned, size_turned, product_turned, off_turned, on_row, on_column, number_turned, hand_turned}
 
 abbrev pub turned_page : Turn → Page → Page
 turned_page τ p = record { book = turned_book τ p.book; reply = turned_reply τ p.reply }
 
-pub preparing_not : preparing ≡ start → ⊥
-preparing_not e = let z : ◌≡◌ {A = ℕ} 0 1 = cc in omega arith
-
-pub serving_not : serving ≡ start → ⊥
-serving_not e = let z : ◌≡◌ {A = ℕ} 0 1 = cc in omega arith
-
 -- ---- judged alike
 
 -- each fault alike, where none of those before it is there
 abbrev Alike : List Fault → List Fault → Type 0
 Alike [] [] = Unit {0}
-Alike [] (y ∷ ys) = ⊥
-Alike (x ∷ xs) [] = ⊥
 Alike (x ∷ xs) (y ∷ ys) = (x.there ≡ y.there) × (x.why ≡ y.why) × (y.there ≡ false → Alike xs ys)
+Alike xs ys = ⊥
 
 judged_turned : (τ : Turn) (xs ys : List Fault) (b : Book) (p' p : Page) → Alike xs ys → (NoneThere ys → p' ≡ turned_page τ p) → judged xs (turned_book τ b) p' ≡ turned_page τ (judged ys b p)
 judged_turned τ [] [] b p' p a h = h tt
-judged_turned τ [] (y ∷ ys) b p' p a h = absurd a
-judged_turned τ (x ∷ xs) [] b p' p a h = absurd a
-judged_turned τ (x ∷ xs) (y ∷ ys) b p' p a h =
-    (λ i. cond (a.0 i) (unchanged (turned_book τ b) (Refused (a.1 i))) (judged xs (turned_book τ b) p'))
-    ∙ by y.there refl (judged_turned τ xs ys b p' p)
-  where
-    by : (v : Bool) → y.there ≡ v → (Alike xs ys → (NoneThere ys → p' ≡ turned_page τ p) → judged xs (turned_book τ b) p' ≡ turned_page τ (judged ys b p)) →
-        cond v (unchanged (turned_book τ b) (Refused y.why)) (judged xs (turned_book τ b) p') ≡ turned_page τ (cond v (unchanged b (Refused y.why)) (judged ys b p))
-    by true e rest = refl
-    by false e rest = rest (a.2 e) (λ n. h (e, n))
+judged_turned τ (x ∷ xs) (y ∷ ys) b p' p a h = rw (a.0, a.1) (⊎_elim (λ e. rw e) (λ e. rw e (judged_turned τ xs ys b p' p (a.2 e) (λ n. h (e, n)))) (cases_Bool y.there))
+judged_turned τ xs ys b p' p a h = absurd a
 
 -- ---- a call on its sheet
 
@@ -62,67 +46,24 @@ module _ (rules : Rules) (flux : LawfulFlux rules.water rules.push) (friction : 
   on_sheet x = turned_call τ b.table.rows b.table.columns x
 
   rain_account : (n : ℕ) → rain_more (turned_account τ b.account) (rained_on (turned_table τ b.table) n) ≡ turned_account τ (rain_more b.account (rained_on b.table n))
-  rain_account n = ap (λ m. rain_more (turned_account τ b.account) (n * m)) (product_turned τ b.table.rows b.table.columns) ∙ rain_turned τ b.account (rained_on b.table n)
+  rain_account n = rw (product_turned τ b.table.rows b.table.columns) (rain_turned τ b.account (rained_on b.table n))
 
   soak_account : (n : ℕ) → soak_more (turned_account τ b.account) (soaked_away (turned_table τ b.table) n) ≡ turned_account τ (soak_more b.account (soaked_away b.table n))
-  soak_account n =
-      ap (soak_more (turned_account τ b.account)) (sum_turned τ b.table.rows b.table.columns (λ r c. min (cell_at (turned_table τ b.table) r c).depth n) (λ r c. min (cell_at b.table r c).depth n) (λ r c h k. ap (λ d. min d n) (depth_came τ b.table r c h k)))
-      ∙ soak_turned τ b.account (soaked_away b.table n)
+  soak_account n = rw (sum_turned τ b.table.rows b.table.columns _ (λ r c. min (cell_at b.table r c).depth n) (λ r c h k. ap (λ d. min d n) (depth_came τ b.table r c h k))) (soak_turned τ b.account (soaked_away b.table n))
 
   faults_turned : (x : Call) → SoundAt (stage_of x) b.table → Alike (faults rules (turned_book τ b) (on_sheet x)) (faults rules b x)
   faults_turned (Prepare rows columns width) s = (size_turned τ rows columns width, refl, λ _. tt)
   faults_turned (Lay row column bed depth) s = (off_turned τ b.table row column, refl, λ _. (refl, refl, λ _. (refl, refl, λ _. tt)))
-  faults_turned Opening s =
-      (some_turned τ b.table.rows b.table.columns (λ r c. not (cell_at (turned_table τ b.table) r c).laid) (λ r c. not (cell_at b.table r c).laid) (λ r c h k. ap not (laid_came τ b.table r c h k)), refl, λ _. tt)
-  faults_turned (Step rate) s = (
-    refl,
-    refl,
-    λ _. (
-      too_slow_turned τ b.table rate,
-      refl,
-      λ _. (
-        brim_passed_turned rules flux τ b.table s rate,
-        refl,
-        λ _.
-            (ap full (step_account rules flux τ b.table s rate b.account) ∙ full_turned τ (account_after_step rules b.table rate b.account), refl, λ _. tt),
-      ),
-    ),
-  )
-  faults_turned (Rain n) s = (
-    refl,
-    refl,
-    λ _. (
-      some_turned τ b.table.rows b.table.columns (λ r c. ltb max_depth ((cell_at (turned_table τ b.table) r c).depth + n)) (λ r c. ltb max_depth ((cell_at b.table r c).depth + n)) (λ r c h k. ap (λ d. ltb max_depth (d + n)) (depth_came τ b.table r c h k)),
-      refl,
-      λ _.
-          (ap full (rain_account n) ∙ full_turned τ (rain_more b.account (rained_on b.table n)), refl, λ _. tt),
-    ),
-  )
-  faults_turned (Soak n) s = (refl, refl, λ _. (ap full (soak_account n) ∙ full_turned τ (soak_more b.account (soaked_away b.table n)), refl, λ _. tt))
-  faults_turned (ChangeSide n kind x y) s = (
-    ap (λ z. z || side_amiss kind x y) (number_turned τ n),
-    refl,
-    λ e. (
-      ap (λ z. held_over (turned_table τ b.table) z (side_of kind x y)) (hand_turned τ n (or_parts (ltb 3 n) (side_amiss kind x y) e).0)
-          ∙ (held_turned τ b.table s (turned_hand τ (hand_of n)) (side_of kind x y) ∙ ap (λ z. held_over b.table z (side_of kind x y)) (hand_twice τ (hand_of n))),
-      refl,
-      λ _. tt,
-    ),
-  )
-  faults_turned (AskCell row column) s = tt
-  faults_turned AskAccount s = tt
-  faults_turned AskStanding s = tt
+  faults_turned Opening s = (some_turned τ b.table.rows b.table.columns _ (λ r c. not (cell_at b.table r c).laid) (λ r c h k. rw (cell_turned τ b.table r c h k, laid_kept)), refl, λ _. tt)
+  faults_turned (Step rate) s = (refl, refl, λ _. (too_slow_turned τ b.table rate, refl, λ _. (brim_passed_turned rules flux τ b.table s rate, refl, λ _. (ap full (step_account rules flux τ b.table s rate b.account) ∙ full_turned τ _, refl, λ _. tt))))
+  faults_turned (Rain n) s =
+      let brim = some_turned τ b.table.rows b.table.columns (λ r c. ltb max_depth ((cell_at (turned_table τ b.table) r c).depth + n)) (λ r c. ltb max_depth ((cell_at b.table r c).depth + n)) (λ r c h k. ap (λ d. ltb max_depth (d + n)) (depth_came τ b.table r c h k)) in
+      (refl, refl, λ _. (brim, refl, λ _. (ap full (rain_account n) ∙ full_turned τ _, refl, λ _. tt)))
+  faults_turned (Soak n) s = (refl, refl, λ _. (ap full (soak_account n) ∙ full_turned τ _, refl, λ _. tt))
+  faults_turned (ChangeSide n kind x y) s =
+      (rw (number_turned τ n), refl, λ e. (rw (hand_turned τ n (or_parts (ltb 3 n) (side_amiss kind x y) e).0, held_turned τ b.table s (turned_hand τ (hand_of n)) (side_of kind x y), hand_twice), refl, λ _. tt))
   faults_turned AskSlowestRate s = (ap (ltb max_rate) (slowest_turned τ b.table), refl, λ _. tt)
-  faults_turned Close s = tt
-
-  asked_turned : (r c : ℕ) (out : Bool) → off_sheet b.table r c ≡ out →
-      cond out None (Some (cell_at (turned_table τ b.table) (sent τ b.table r c).row (sent τ b.table r c).column)) ≡ turned_asked τ (cond out None (Some (cell_at b.table r c)))
-  asked_turned r c true e = refl
-  asked_turned r c false e =
-      let h : r < b.table.rows = on_row b.table r c e in
-      let k : c < b.table.columns = on_column b.table r c e in
-      ap Some (cell_turned τ b.table (sent τ b.table r c).row (sent τ b.table r c).column (sent_row τ b.table r c h k) (sent_column τ b.table r c h k)
-      ∙ ap (λ (p : Place). turned_cell τ (cell_at b.table p.row p.column)) (came_sent τ b.table r c h k))
+  faults_turned x s = tt
 
   accepted_turned : (x : Call) → SoundAt (stage_of x) b.table → NoneThere (faults rules b x) → accepted rules (turned_book τ b) (on_sheet x) ≡ turned_page τ (accepted rules b x)
   accepted_turned (Prepare rows columns width) s n = λ i. on_page preparing (sym (blank_turned τ rows columns width) i) (poured_turned τ 0 i) Done
@@ -143,67 +84,40 @@ module _ (rules : Rules) (flux : LawfulFlux rules.water rules.push) (friction : 
       (ap (λ hand. set (turned_table τ b.table).sides (side_number hand) (side_of kind x y)) (hand_turned τ n (or_parts (ltb 3 n) (side_amiss kind x y) m.0).0)
       ∙ sym (sides_set τ (hand_of n) b.table.sides (side_of kind x y) s.four))
   accepted_turned (AskCell r c) s n =
-      ap (λ o. unchanged (turned_book τ b) (CellIs o))
-      (ap (λ x. cond x None (Some (cell_at (turned_table τ b.table) (sent τ b.table r c).row (sent τ b.table r c).column))) (off_turned τ b.table r c)
-      ∙ asked_turned r c (off_sheet b.table r c) refl)
-  accepted_turned AskAccount s n = refl
-  accepted_turned AskStanding s n = ap (λ m. unchanged (turned_book τ b) (StandingIs m)) (standing_turned τ b.table)
+      rw (off_turned τ b.table r c)
+      (⊎_elim (λ (e : off_sheet b.table r c ≡ true). rw e)
+      (λ (e : off_sheet b.table r c ≡ false).
+      let h : r < b.table.rows = on_row b.table r c e in
+      let k : c < b.table.columns = on_column b.table r c e in
+      rw (e, cell_turned τ b.table _ _ (sent_row τ b.table r c h k) (sent_column τ b.table r c h k), came_sent τ b.table r c h k))
+      (cases_Bool (off_sheet b.table r c)))
+  accepted_turned AskStanding s n = rw (standing_turned τ b.table)
   accepted_turned AskSlowestRate s n = ap (λ r. unchanged (turned_book τ b) (RateIs r)) (slowest_turned τ b.table)
-  accepted_turned Close s n = refl
+  accepted_turned x s n = refl
 
 -- ---- a call, answered
 
 stage_turned : (τ : Turn) (rows columns : ℕ) (x : Call) → stage_of (turned_call τ rows columns x) ≡ stage_of x
 stage_turned τ rows columns (Prepare r c w) = refl
-stage_turned τ rows columns (Lay r c bed depth) = refl
-stage_turned τ rows columns Opening = refl
-stage_turned τ rows columns (Step rate) = refl
-stage_turned τ rows columns (Rain n) = refl
-stage_turned τ rows columns (Soak n) = refl
-stage_turned τ rows columns (ChangeSide n kind x y) = refl
-stage_turned τ rows columns (AskCell r c) = refl
-stage_turned τ rows columns AskAccount = refl
-stage_turned τ rows columns AskStanding = refl
-stage_turned τ rows columns AskSlowestRate = refl
-stage_turned τ rows columns Close = refl
+stage_turned τ rows columns x = refl
 
 -- a call that names a place comes to a book with a sheet of that size
 module _ (τ : Turn) (rows columns : ℕ) (b : Book) (size : OfSize rows columns b) where
-  sheet_size : (s : Stage) → (s ≡ start → ⊥) → b.stage ≡ s → (b.table.rows ≡ rows) × (b.table.columns ≡ columns)
-  sheet_size s h e = by size
-    where
-      by : OfSize rows columns b → (b.table.rows ≡ rows) × (b.table.columns ≡ columns)
-      by (inl z) = absurd (h (sym e ∙ z))
-      by (inr z) = z
+  sheet_size : (b.stage ≡ start → ⊥) → (b.table.rows ≡ rows) × (b.table.columns ≡ columns)
+  sheet_size h = ⊎_elim (λ z. absurd (h z)) (λ z. z) size
 
   same_call : (x : Call) → b.stage ≡ stage_of x → turned_call τ rows columns x ≡ turned_call τ b.table.rows b.table.columns x
-  same_call (Prepare r c w) e = refl
-  same_call (Lay r c bed depth) e = let z = sheet_size preparing preparing_not e in ap₂ (λ m n. turned_call τ m n (Lay r c bed depth)) (sym z.0) (sym z.1)
-  same_call Opening e = refl
-  same_call (Step rate) e = refl
-  same_call (Rain n) e = refl
-  same_call (Soak n) e = refl
-  same_call (ChangeSide n kind x y) e = refl
-  same_call (AskCell r c) e = let z = sheet_size serving serving_not e in ap₂ (λ m n. turned_call τ m n (AskCell r c)) (sym z.0) (sym z.1)
-  same_call AskAccount e = refl
-  same_call AskStanding e = refl
-  same_call AskSlowestRate e = refl
-  same_call Close e = refl
+  same_call (Lay r c bed depth) e = let z = sheet_size (λ s. cc) in rw (z.0, z.1)
+  same_call (AskCell r c) e = let z = sheet_size (λ s. cc) in rw (z.0, z.1)
+  same_call x e = refl
 
   module _ (rules : Rules) (flux : LawfulFlux rules.water rules.push) (friction : LawfulFriction rules.slowed) (sound : SoundBook b) where
     pub answer_turned : (x : Call) → answer rules (turned_book τ b) (turned_call τ rows columns x) ≡ turned_page τ (answer rules b x)
     answer_turned x =
-        ap (λ s. cond (not (eqb (stage_number b.stage) (stage_number s))) (unchanged (turned_book τ b) (Refused OutOfStage)) (judged_as (turned_call τ rows columns x))) (stage_turned τ rows columns x)
-        ∙ by (fits b.stage x) refl
-      where
-        judged_as : Call → Page
-        judged_as y = judged (faults rules (turned_book τ b) y) (turned_book τ b) (accepted rules (turned_book τ b) y)
-
-        by : (v : Bool) → fits b.stage x ≡ v → cond (not v) (unchanged (turned_book τ b) (Refused OutOfStage)) (judged_as (turned_call τ rows columns x))
-            ≡ turned_page τ (cond (not v) (unchanged b (Refused OutOfStage)) (judged (faults rules b x) b (accepted rules b x)))
-        by true f =
-            let e = stage_is b.stage x f in
-            let s : SoundAt (stage_of x) b.table = subst (λ z. SoundAt z b.table) e sound in
-            ap judged_as (same_call x e)
-            ∙ judged_turned τ (faults rules (turned_book τ b) (turned_call τ b.table.rows b.table.columns x)) (faults rules b x) b _ _ (faults_turned rules flux friction τ b x s) (accepted_turned rules flux friction τ b x s)
-        by false f = refl
+        rw (stage_turned τ rows columns x)
+        (⊎_elim
+        (λ f.
+        let e = stage_is b.stage x f in
+        let s : SoundAt (stage_of x) b.table = subst (λ z. SoundAt z b.table) e sound in
+        rw (f, same_call x e) (judged_turned τ _ _ b _ _ (faults_turned rules flux friction τ b x s) (accepted_turned rules flux friction τ b x s)))
+        (λ f. rw f) (cases_Bool (fits b.stage x)))

@@ -1,8 +1,9 @@
 -- One step of one cell: the turned faces make of the turned cell the new cell, turned.
-use Rattle.std.proofs.Common.{◌≡◌, ℕ, ◌+◌, ◌-◌, ◌*◌, ◌≤◌, Bool, true, false, cond, not, ◌&&◌, ◌||◌, ltb, ℤ, pos, ◌+ℤ◌, ◌-ℤ◌, ◌*ℤ◌, neg_ℤ, nat_abs, refl, ap, ◌∙◌, ap₂, arith}
+use Rattle.std.proofs.Common.{⊎_elim, ◌≡◌, ℕ, ◌≤◌, Bool, false, ◌||◌, ltb, ℤ, pos, ◌*ℤ◌, neg_ℤ, nat_abs, refl, ap, arith}
 use lib.IntN.{neg_ℤ-neg_ℤ}
 use lib.Signed.{lt_z}
 use Rattle.std.proofs.lemmas.Int.{ints}
+use Rattle.std.proofs.lemmas.Bool.{cases_Bool}
 use Rattle.book.specs.declared.cell.Cell.{Cell}
 use Rattle.book.specs.declared.side.Hand.{Hand}
 use Rattle.book.specs.declared.side.Hand.TheVariants.{West, East, South, North}
@@ -12,49 +13,30 @@ use Rattle.rules.specs.Side.{face_pace, pace_of}
 use Rattle.book.specs.declared.turn.Turn.{Turn}
 use Rattle.book.specs.declared.turn.Turn.TheVariants.{EastWest, SouthNorth, RowsColumns}
 use Rattle.book.specs.Ranges.{max_depth, max_velocity, max_rate}
-use Rattle.book.specs.Numbers.{trunc, share, film, thinned, positive, velocity}
-use Rattle.book.specs.Faces.{Face, own_depth, pace}
-use Rattle.book.specs.Step.{Rules, thrust, all_hands, speed, past_brim, water, push, carried, outward, gives, takes, pressed, east_thrust, north_thrust, depth_after, raw_east, raw_north, brim_after, cell_after}
+use Rattle.book.specs.Numbers.{film, trunc, thinned, positive, velocity}
+use Rattle.book.specs.Faces.{Face, pace}
+use Rattle.book.specs.Step.{Rules, all_hands, speed, past_brim, water, push, carried, outward, gives, takes, east_thrust, north_thrust, depth_after, raw_east, raw_north, brim_after, cell_after}
 use Rattle.book.specs.Turns.{turned_hand, turned_cell}
 use Rattle.book.proofs.Sound.{Ranged, FacingBoth}
 use Rattle.rules.specs.Ints.{mul_neg, quot_neg}
-use Rattle.book.proofs.Numbers.{abs_neg, share_neg, velocity_neg, speed_neg, thinned_neg, friction_speed_neg_east, friction_speed_neg_north, friction_speed_swap, carried_swap, less_neg}
-use Rattle.book.proofs.Sums.{or_comm}
-use Rattle.book.proofs.Steps.{below_brim, slowing}
+use Rattle.book.proofs.Numbers.{share_neg, velocity_neg, speed_neg, thinned_neg, friction_speed_neg_east, friction_speed_neg_north, friction_speed_swap, carried_swap}
+use Rattle.std.proofs.Math.Bool.{or_assoc, or_comm}
+use Rattle.book.proofs.Steps.{BelowBrim, below_brim, slowing}
 use Rattle.book.proofs.TurnedFaces.{flip, counter, turned_face}
 
 -- ---- faces
 
-pace_exchanged : (dl : ℕ) (nl : ℤ) (dr : ℕ) (nr : ℤ) → face_pace dr (neg_ℤ nr) dl (neg_ℤ nl) ≡ face_pace dl nl dr nr
+pace_flip : (f : Face) → pace (flip f) ≡ pace f
 unfolding face_pace pace_of
-pace_exchanged dl nl dr nr = let e = abs_neg nl in let f = abs_neg nr in omega arith
+pace_flip f = omega (arith, ints)
 
 pub pace_turned : (τ : Turn) (hand : Hand) (f : Face) → pace (turned_face τ hand f) ≡ pace f
-pace_turned τ hand f = go τ hand
-  where
-    other : pace (flip f) ≡ pace f
-    other = pace_exchanged f.left.depth f.left.normal f.right.depth f.right.normal
-
-    go : (τ : Turn) (hand : Hand) → pace (turned_face τ hand f) ≡ pace f
-    go EastWest West = other
-    go EastWest East = other
-    go EastWest South = refl
-    go EastWest North = refl
-    go SouthNorth West = refl
-    go SouthNorth East = refl
-    go SouthNorth South = other
-    go SouthNorth North = other
-    go RowsColumns West = refl
-    go RowsColumns East = refl
-    go RowsColumns South = refl
-    go RowsColumns North = refl
-
-cond_neg : (b : Bool) (x y : ℤ) → cond b (neg_ℤ x) (neg_ℤ y) ≡ neg_ℤ (cond b x y)
-cond_neg true x y = refl
-cond_neg false x y = refl
-
-same_thrust : (a b c d a' b' c' d' : ℤ) → a ≡ a' → b ≡ b' → c ≡ c' → d ≡ d' → thrust a b c d ≡ thrust a' b' c' d'
-same_thrust a b c d a' b' c' d' e₁ e₂ e₃ e₄ = λ i. thrust (e₁ i) (e₂ i) (e₃ i) (e₄ i)
+pace_turned EastWest West f = pace_flip f
+pace_turned EastWest East f = pace_flip f
+pace_turned SouthNorth South f = pace_flip f
+pace_turned SouthNorth North f = pace_flip f
+pace_turned RowsColumns West f = refl
+pace_turned τ hand f = refl
 
 module _ (rules : Rules) (flux : LawfulFlux rules.water rules.push) where
   water_flip : (f : Face) → FacingBoth f → water rules (flip f) ≡ neg_ℤ (water rules f)
@@ -64,84 +46,42 @@ module _ (rules : Rules) (flux : LawfulFlux rules.water rules.push) where
   push_flip f h = flux.exchanged_push f.left.depth f.left.normal f.right.depth f.right.normal h.left h.right
 
   carried_flip : (f : Face) → FacingBoth f → carried rules (flip f) ≡ neg_ℤ (carried rules f)
-  carried_flip f h =
-      ap (λ w. (pos 20 *ℤ w) *ℤ cond (lt_z (pos 0) w) f.right.along f.left.along) (water_flip f h)
-      ∙ carried_swap (water rules f) f.left.along f.right.along
+  carried_flip f h = rw (water_flip f h) (carried_swap (water rules f) f.left.along f.right.along)
 
   carried_counter : (f : Face) → carried rules (counter f) ≡ neg_ℤ (carried rules f)
-  carried_counter f =
-      ap (λ x. (pos 20 *ℤ water rules f) *ℤ x) (cond_neg (lt_z (pos 0) (water rules f)) f.left.along f.right.along)
-      ∙ mul_neg (pos 20 *ℤ water rules f) (cond (lt_z (pos 0) (water rules f)) f.left.along f.right.along)
+  carried_counter f = ⊎_elim (λ e. rw e (mul_neg (pos 20 *ℤ water rules f) _)) (λ e. rw e (mul_neg (pos 20 *ℤ water rules f) _)) (cases_Bool (lt_z (pos 0) (water rules f)))
 
   trunc_flip : (K : ℕ) (f : Face) → FacingBoth f → trunc (water rules (flip f)) K ≡ neg_ℤ (trunc (water rules f) K)
-  trunc_flip K f h = ap (λ w. trunc w K) (water_flip f h) ∙ quot_neg (water rules f) K
+  trunc_flip K f h = rw (water_flip f h, quot_neg)
 
   outward_turned : (τ : Turn) (hand : Hand) (K : ℕ) (f : Face) → FacingBoth f → outward rules K hand (turned_face τ hand f) ≡ outward rules K (turned_hand τ hand) f
-  outward_turned EastWest West K f h = ap neg_ℤ (trunc_flip K f h) ∙ neg_ℤ-neg_ℤ (trunc (water rules f) K)
+  outward_turned EastWest West K f h = rw (trunc_flip K f h, neg_ℤ-neg_ℤ)
   outward_turned EastWest East K f h = trunc_flip K f h
-  outward_turned EastWest South K f h = refl
-  outward_turned EastWest North K f h = refl
-  outward_turned SouthNorth West K f h = refl
-  outward_turned SouthNorth East K f h = refl
-  outward_turned SouthNorth South K f h = ap neg_ℤ (trunc_flip K f h) ∙ neg_ℤ-neg_ℤ (trunc (water rules f) K)
+  outward_turned SouthNorth South K f h = rw (trunc_flip K f h, neg_ℤ-neg_ℤ)
   outward_turned SouthNorth North K f h = trunc_flip K f h
   outward_turned RowsColumns West K f h = refl
-  outward_turned RowsColumns East K f h = refl
-  outward_turned RowsColumns South K f h = refl
-  outward_turned RowsColumns North K f h = refl
-
-  pressed_flip : (d : ℕ) (hand to : Hand) (f : Face) → own_depth hand (flip f) ≡ own_depth to f → FacingBoth f → pressed rules d hand (flip f) ≡ pressed rules d to f
-  pressed_flip d hand to f e h = ap₂ (λ p o. p +ℤ (pos 981 *ℤ (pos (d * d) -ℤ pos (o * o)))) (push_flip f h) e
-
-  pressed_turned : (τ : Turn) (hand : Hand) (d : ℕ) (f : Face) → FacingBoth f → pressed rules d hand (turned_face τ hand f) ≡ pressed rules d (turned_hand τ hand) f
-  pressed_turned EastWest West d f h = pressed_flip d West East f refl h
-  pressed_turned EastWest East d f h = pressed_flip d East West f refl h
-  pressed_turned EastWest South d f h = refl
-  pressed_turned EastWest North d f h = refl
-  pressed_turned SouthNorth West d f h = refl
-  pressed_turned SouthNorth East d f h = refl
-  pressed_turned SouthNorth South d f h = pressed_flip d South North f refl h
-  pressed_turned SouthNorth North d f h = pressed_flip d North South f refl h
-  pressed_turned RowsColumns West d f h = refl
-  pressed_turned RowsColumns East d f h = refl
-  pressed_turned RowsColumns South d f h = refl
-  pressed_turned RowsColumns North d f h = refl
-
-thrust_neg : (a b c d : ℤ) → thrust a b (neg_ℤ c) (neg_ℤ d) ≡ neg_ℤ (thrust b a c d)
-thrust_neg a b c d = omega (arith, ints)
-
-thrust_swap : (a b c d : ℤ) → thrust a b (neg_ℤ c) (neg_ℤ d) ≡ thrust a b d c
-thrust_swap a b c d = omega (arith, ints)
+  outward_turned τ hand K f h = refl
 
 -- ---- the turned cell
 
 all_turned : (τ : Turn) (f g : Hand → ℕ) → ((hand : Hand) → f hand ≡ g (turned_hand τ hand)) → all_hands f ≡ all_hands g
 all_turned EastWest f g h = omega (arith, h West, h East, h South, h North)
-all_turned SouthNorth f g h = omega (arith, h West, h East, h South, h North)
-all_turned RowsColumns f g h = omega (arith, h West, h East, h South, h North)
+all_turned τ f g h = omega (arith, h West, h East, h South, h North)
 
 pub depth_kept : (τ : Turn) (k : Cell) → (turned_cell τ k).depth ≡ k.depth
 depth_kept EastWest k = refl
-depth_kept SouthNorth k = refl
-depth_kept RowsColumns k = refl
+depth_kept τ k = refl
 
 speed_turned : (τ : Turn) (k : Cell) → speed (turned_cell τ k) ≡ speed k
-speed_turned EastWest k = rw (velocity_neg k.east k.depth) (friction_speed_neg_east (velocity k.east k.depth) (velocity k.north k.depth))
-speed_turned SouthNorth k = rw (velocity_neg k.north k.depth) (friction_speed_neg_north (velocity k.east k.depth) (velocity k.north k.depth))
+speed_turned EastWest k = rw (velocity_neg, friction_speed_neg_east)
+speed_turned SouthNorth k = rw (velocity_neg, friction_speed_neg_north)
 speed_turned RowsColumns k = friction_speed_swap (velocity k.east k.depth) (velocity k.north k.depth)
 
-brim_neg_east : (h : ℕ) (e n : ℤ) → past_brim h (neg_ℤ e) n ≡ past_brim h e n
-brim_neg_east h e n = ap (λ v. not (ltb h film) && (ltb max_depth h || ltb max_velocity v || ltb max_velocity (nat_abs (velocity n h)))) (speed_neg e h)
-
-brim_neg_north : (h : ℕ) (e n : ℤ) → past_brim h e (neg_ℤ n) ≡ past_brim h e n
-brim_neg_north h e n = ap (λ v. not (ltb h film) && (ltb max_depth h || ltb max_velocity (nat_abs (velocity e h)) || ltb max_velocity v)) (speed_neg n h)
-
 or_last : (a b c : Bool) → ((a || b) || c) ≡ ((a || c) || b)
-or_last true b c = refl
-or_last false b c = or_comm b c
+or_last a b c = cc (or_assoc a b c, or_comm b c, or_assoc a c b)
 
 brim_swap : (h : ℕ) (e n : ℤ) → past_brim h n e ≡ past_brim h e n
-brim_swap h e n = ap (λ b. not (ltb h film) && b) (or_last (ltb max_depth h) (ltb max_velocity (nat_abs (velocity n h))) (ltb max_velocity (nat_abs (velocity e h))))
+brim_swap h e n = rw (or_last (ltb max_depth h) (ltb max_velocity (nat_abs (velocity n h))))
 
 -- the turned faces, seen from the turned cell
 abbrev pub turned_faces : Turn → (Hand → Face) → Hand → Face
@@ -157,49 +97,44 @@ module _ (rules : Rules) (flux : LawfulFlux rules.water rules.push) where
   module _ (cell : Cell) (F : Hand → Face) (facing : (hand : Hand) → FacingBoth (F hand)) where
     east_thrust_columns : east_thrust rules (turned_cell EastWest cell) (turned_faces EastWest F) ≡ neg_ℤ (east_thrust rules cell F)
     east_thrust_columns =
-        same_thrust _ _ _ _ _ _ _ _ (pressed_turned rules flux EastWest East cell.depth (F West) (facing West)) (pressed_turned rules flux EastWest West cell.depth (F East) (facing East)) (carried_counter rules flux (F North)) (carried_counter rules flux (F South))
-        ∙ thrust_neg (pressed rules cell.depth West (F West)) (pressed rules cell.depth East (F East)) (carried rules (F North)) (carried rules (F South))
+        omega (arith, ints, push_flip rules flux (F West) (facing West), push_flip rules flux (F East) (facing East), carried_counter rules flux (F North), carried_counter rules flux (F South))
 
     north_thrust_columns : north_thrust rules (turned_cell EastWest cell) (turned_faces EastWest F) ≡ north_thrust rules cell F
-    north_thrust_columns =
-        same_thrust _ _ _ _ _ _ _ _ (pressed_turned rules flux EastWest North cell.depth (F North) (facing North)) (pressed_turned rules flux EastWest South cell.depth (F South) (facing South)) (carried_flip rules flux (F West) (facing West)) (carried_flip rules flux (F East) (facing East))
-        ∙ thrust_swap (pressed rules cell.depth North (F North)) (pressed rules cell.depth South (F South)) (carried rules (F West)) (carried rules (F East))
+    north_thrust_columns = omega (arith, ints, carried_flip rules flux (F West) (facing West), carried_flip rules flux (F East) (facing East))
 
     north_thrust_rows : north_thrust rules (turned_cell SouthNorth cell) (turned_faces SouthNorth F) ≡ neg_ℤ (north_thrust rules cell F)
     north_thrust_rows =
-        same_thrust _ _ _ _ _ _ _ _ (pressed_turned rules flux SouthNorth North cell.depth (F South) (facing South)) (pressed_turned rules flux SouthNorth South cell.depth (F North) (facing North)) (carried_counter rules flux (F East)) (carried_counter rules flux (F West))
-        ∙ thrust_neg (pressed rules cell.depth South (F South)) (pressed rules cell.depth North (F North)) (carried rules (F East)) (carried rules (F West))
+        omega (arith, ints, push_flip rules flux (F South) (facing South), push_flip rules flux (F North) (facing North), carried_counter rules flux (F East), carried_counter rules flux (F West))
 
     east_thrust_rows : east_thrust rules (turned_cell SouthNorth cell) (turned_faces SouthNorth F) ≡ east_thrust rules cell F
-    east_thrust_rows =
-        same_thrust _ _ _ _ _ _ _ _ (pressed_turned rules flux SouthNorth East cell.depth (F East) (facing East)) (pressed_turned rules flux SouthNorth West cell.depth (F West) (facing West)) (carried_flip rules flux (F South) (facing South)) (carried_flip rules flux (F North) (facing North))
-        ∙ thrust_swap (pressed rules cell.depth East (F East)) (pressed rules cell.depth West (F West)) (carried rules (F South)) (carried rules (F North))
-
-    raw_reversed : (k : ℕ) (q z z' : ℤ) → z' ≡ neg_ℤ z → neg_ℤ q -ℤ share z' (20 * k) ≡ neg_ℤ (q -ℤ share z (20 * k))
-    raw_reversed k q z z' e = ap (λ x. neg_ℤ q -ℤ x) (ap (λ x. share x (20 * k)) e ∙ share_neg z (20 * k)) ∙ less_neg q (share z (20 * k))
+    east_thrust_rows = omega (arith, ints, carried_flip rules flux (F South) (facing South), carried_flip rules flux (F North) (facing North))
 
     module _ (k : ℕ) where
       depth_turned : (τ : Turn) → depth_after rules (turned_cell τ cell) (turned_faces τ F) k ≡ depth_after rules cell F k
-      depth_turned τ = λ i.
-          (depth_kept τ cell i + all_turned τ (λ hand. takes rules k hand (turned_faces τ F hand)) (λ hand. takes rules k hand (F hand)) (λ hand. takes_turned τ hand k (F (turned_hand τ hand)) (facing (turned_hand τ hand))) i)
-          - all_turned τ (λ hand. gives rules k hand (turned_faces τ F hand)) (λ hand. gives rules k hand (F hand)) (λ hand. gives_turned τ hand k (F (turned_hand τ hand)) (facing (turned_hand τ hand))) i
+      depth_turned τ =
+          omega (
+            arith,
+            depth_kept τ cell,
+            all_turned τ _ (λ hand. takes rules k hand (F hand)) (λ hand. takes_turned τ hand k (F (turned_hand τ hand)) (facing (turned_hand τ hand))),
+            all_turned τ _ (λ hand. gives rules k hand (F hand)) (λ hand. gives_turned τ hand k (F (turned_hand τ hand)) (facing (turned_hand τ hand))),
+          )
 
       east_columns : raw_east rules (turned_cell EastWest cell) (turned_faces EastWest F) k ≡ neg_ℤ (raw_east rules cell F k)
-      east_columns = raw_reversed k cell.east (east_thrust rules cell F) (east_thrust rules (turned_cell EastWest cell) (turned_faces EastWest F)) east_thrust_columns
+      east_columns = rw (east_thrust_columns, share_neg) (omega (arith, ints))
 
       north_columns : raw_north rules (turned_cell EastWest cell) (turned_faces EastWest F) k ≡ raw_north rules cell F k
-      north_columns = ap (λ z. cell.north -ℤ share z (20 * k)) north_thrust_columns
+      north_columns = rw north_thrust_columns
 
       north_rows : raw_north rules (turned_cell SouthNorth cell) (turned_faces SouthNorth F) k ≡ neg_ℤ (raw_north rules cell F k)
-      north_rows = raw_reversed k cell.north (north_thrust rules cell F) (north_thrust rules (turned_cell SouthNorth cell) (turned_faces SouthNorth F)) north_thrust_rows
+      north_rows = rw (north_thrust_rows, share_neg) (omega (arith, ints))
 
       east_rows : raw_east rules (turned_cell SouthNorth cell) (turned_faces SouthNorth F) k ≡ raw_east rules cell F k
-      east_rows = ap (λ z. cell.east -ℤ share z (20 * k)) east_thrust_rows
+      east_rows = rw east_thrust_rows
 
       pub brim_turned : (τ : Turn) → brim_after rules (turned_cell τ cell) (turned_faces τ F) k ≡ brim_after rules cell F k
-      brim_turned EastWest = (λ i. past_brim (depth_turned EastWest i) (east_columns i) (north_columns i)) ∙ brim_neg_east (depth_after rules cell F k) (raw_east rules cell F k) (raw_north rules cell F k)
-      brim_turned SouthNorth = (λ i. past_brim (depth_turned SouthNorth i) (east_rows i) (north_rows i)) ∙ brim_neg_north (depth_after rules cell F k) (raw_east rules cell F k) (raw_north rules cell F k)
-      brim_turned RowsColumns = (λ i. past_brim (depth_turned RowsColumns i) (raw_north rules cell F k) (raw_east rules cell F k)) ∙ brim_swap (depth_after rules cell F k) (raw_east rules cell F k) (raw_north rules cell F k)
+      brim_turned EastWest = rw (depth_turned EastWest, east_columns, north_columns, speed_neg)
+      brim_turned SouthNorth = rw (depth_turned SouthNorth, east_rows, north_rows, speed_neg)
+      brim_turned RowsColumns = rw (depth_turned RowsColumns) (brim_swap _ _ _)
 
       -- ---- friction
 
@@ -207,26 +142,13 @@ module _ (rules : Rules) (flux : LawfulFlux rules.water rules.push) where
         abbrev flow : ℕ → ℤ → ℕ → ℤ
         flow h q u = thinned h (rules.slowed q u h rate)
 
-        east_reversed : flow (depth_after rules cell F k) (neg_ℤ (raw_east rules cell F k)) (speed cell) ≡ neg_ℤ (flow (depth_after rules cell F k) (raw_east rules cell F k) (speed cell))
-        east_reversed =
-            let h : ℕ = depth_after rules cell F k in
-            let q : ℤ = raw_east rules cell F k in
-            thinned_neg h (rules.slowed (neg_ℤ q) (speed cell) h rate) (rules.slowed q (speed cell) h rate)
-            (λ deep. let b = below_brim h q (raw_north rules cell F k) brim deep in friction.reversed q (speed cell) h rate (slowing cell ranged rate low high h deep b.shallow q b.slow_east))
+        below : film ≤ depth_after rules cell F k → BelowBrim (depth_after rules cell F k) (raw_east rules cell F k) (raw_north rules cell F k)
+        below deep = below_brim _ _ _ brim deep
 
-        north_reversed : flow (depth_after rules cell F k) (neg_ℤ (raw_north rules cell F k)) (speed cell) ≡ neg_ℤ (flow (depth_after rules cell F k) (raw_north rules cell F k) (speed cell))
-        north_reversed =
-            let h : ℕ = depth_after rules cell F k in
-            let q : ℤ = raw_north rules cell F k in
-            thinned_neg h (rules.slowed (neg_ℤ q) (speed cell) h rate) (rules.slowed q (speed cell) h rate)
-            (λ deep. let b = below_brim h (raw_east rules cell F k) q brim deep in friction.reversed q (speed cell) h rate (slowing cell ranged rate low high h deep b.shallow q b.slow_north))
+        reversed : (q : ℤ) → (film ≤ depth_after rules cell F k → nat_abs (velocity q (depth_after rules cell F k)) ≤ max_velocity) → flow (depth_after rules cell F k) (neg_ℤ q) (speed cell) ≡ neg_ℤ (flow (depth_after rules cell F k) q (speed cell))
+        reversed q slow = thinned_neg (depth_after rules cell F k) _ _ (λ deep. friction.reversed q (speed cell) _ rate (slowing cell ranged rate low high _ deep (below deep).shallow q (slow deep)))
 
         pub new_turned : (τ : Turn) → cell_after rules (turned_cell τ cell) (turned_faces τ F) k rate ≡ turned_cell τ (cell_after rules cell F k rate)
-        new_turned EastWest =
-            let east = (λ i. flow (depth_turned EastWest i) (east_columns i) (speed_turned EastWest cell i)) ∙ east_reversed in
-            λ i. record { laid = cell.laid; bed = cell.bed; depth = depth_turned EastWest i; east = east i; north = flow (depth_turned EastWest i) (north_columns i) (speed_turned EastWest cell i) }
-        new_turned SouthNorth =
-            let north = (λ i. flow (depth_turned SouthNorth i) (north_rows i) (speed_turned SouthNorth cell i)) ∙ north_reversed in
-            λ i. record { laid = cell.laid; bed = cell.bed; depth = depth_turned SouthNorth i; east = flow (depth_turned SouthNorth i) (east_rows i) (speed_turned SouthNorth cell i); north = north i }
-        new_turned RowsColumns =
-            λ i. record { laid = cell.laid; bed = cell.bed; depth = depth_turned RowsColumns i; east = flow (depth_turned RowsColumns i) (raw_north rules cell F k) (speed_turned RowsColumns cell i); north = flow (depth_turned RowsColumns i) (raw_east rules cell F k) (speed_turned RowsColumns cell i) }
+        new_turned EastWest = rw (depth_turned EastWest, east_columns, north_columns, speed_turned EastWest, reversed (raw_east rules cell F k) (λ deep. (below deep).slow_east))
+        new_turned SouthNorth = rw (depth_turned SouthNorth, north_rows, east_rows, speed_turned SouthNorth, reversed (raw_north rules cell F k) (λ deep. (below deep).slow_north))
+        new_turned RowsColumns = rw (depth_turned RowsColumns, speed_turned RowsColumns)

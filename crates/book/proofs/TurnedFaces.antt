@@ -1,22 +1,20 @@
 -- A face of the turned sheet is the face that comes there, with its two sides exchanged, with the velocity along it turned about, or as it was.
-use Rattle.std.proofs.Common.{◌≡◌, ℕ, zero, suc, ◌+◌, ◌<◌, ℤ, pos, ◌+ℤ◌, ◌-ℤ◌, neg_ℤ, Some, None, sym, refl, ap, ◌∙◌, ap₂, inl, inr, arith}
+use Rattle.std.proofs.Common.{⊎_elim, ◌≡◌, ℕ, zero, suc, ◌+◌, ◌<◌, ◌≤◌, neg_ℤ, Some, None, refl, arith}
 use lib.IntN.{neg_ℤ-neg_ℤ}
-use Rattle.std.proofs.lemmas.Bool.{cases_lt}
+use Rattle.std.proofs.lemmas.Bool.{cases_lt, lt-ltb, le-ltb}
 use Rattle.book.specs.declared.cell.Cell.{Cell}
 use Rattle.book.specs.declared.side.Hand.{Hand}
 use Rattle.book.specs.declared.side.Hand.TheVariants.{West, East, South, North}
 use Rattle.book.specs.declared.side.Side.{Side}
-use Rattle.book.specs.declared.side.Side.TheVariants.{Wall, Open, Held, Fed}
+use Rattle.book.specs.declared.side.Side.TheVariants.{Fed}
 use Rattle.book.specs.declared.turn.Turn.{Turn}
 use Rattle.book.specs.declared.turn.Turn.TheVariants.{EastWest, SouthNorth, RowsColumns}
-use Rattle.book.specs.Numbers.{positive, greater, where_wet}
-use Rattle.book.specs.Faces.{Column, FaceSide, Face, column, ghost, above, meet, face_of}
-use Rattle.book.specs.Sheets.{Table, Place, cell_at, side_at, neighbour, seen, beyond, face}
+use Rattle.book.specs.Faces.{Column, FaceSide, Face, column, ghost, face_of}
+use Rattle.book.specs.Sheets.{Table, Place, cell_at, side_at, neighbour, beyond, face}
 use Rattle.book.specs.Turns.{mirrored, turned_rows, turned_columns, turned_hand, turned_cell, turned_table}
 use Rattle.book.proofs.Numbers.{velocity_neg, where_wet_neg, greater_swap}
 use Rattle.book.proofs.Sums.{came_from, mirrored_in, mirrored_below}
 use Rattle.book.proofs.Grids.{grid_at}
-use Rattle.book.proofs.Neighbours.{west_none, west_some, east_none, east_some, south_none, south_some, north_none, north_some}
 
 -- ---- columns and faces, exchanged and turned about
 
@@ -41,108 +39,49 @@ counter f = record { left = counter_side f.left; right = counter_side f.right }
 abbrev turned_column : Turn → Hand → Column → Column
 turned_column EastWest West k = flip_column k
 turned_column EastWest East k = flip_column k
-turned_column EastWest South k = counter_column k
-turned_column EastWest North k = counter_column k
-turned_column SouthNorth West k = counter_column k
-turned_column SouthNorth East k = counter_column k
 turned_column SouthNorth South k = flip_column k
 turned_column SouthNorth North k = flip_column k
-turned_column RowsColumns West k = k
-turned_column RowsColumns East k = k
-turned_column RowsColumns South k = k
-turned_column RowsColumns North k = k
+turned_column RowsColumns hand k = k
+turned_column τ hand k = counter_column k
 
 abbrev pub turned_face : Turn → Hand → Face → Face
 turned_face EastWest West f = flip f
 turned_face EastWest East f = flip f
-turned_face EastWest South f = counter f
-turned_face EastWest North f = counter f
-turned_face SouthNorth West f = counter f
-turned_face SouthNorth East f = counter f
 turned_face SouthNorth South f = flip f
 turned_face SouthNorth North f = flip f
-turned_face RowsColumns West f = f
-turned_face RowsColumns East f = f
-turned_face RowsColumns South f = f
-turned_face RowsColumns North f = f
+turned_face RowsColumns hand f = f
+turned_face τ hand f = counter f
 
 column_turned : (τ : Turn) (hand : Hand) (k : Cell) → column hand (turned_cell τ k) ≡ turned_column τ hand (column (turned_hand τ hand) k)
-column_turned EastWest West k = rw (velocity_neg k.east k.depth)
-column_turned EastWest East k = rw (velocity_neg k.east k.depth)
-column_turned EastWest South k = rw (velocity_neg k.east k.depth)
-column_turned EastWest North k = rw (velocity_neg k.east k.depth)
-column_turned SouthNorth West k = rw (velocity_neg k.north k.depth)
-column_turned SouthNorth East k = rw (velocity_neg k.north k.depth)
-column_turned SouthNorth South k = rw (velocity_neg k.north k.depth)
-column_turned SouthNorth North k = rw (velocity_neg k.north k.depth)
+column_turned EastWest West k = rw velocity_neg
+column_turned SouthNorth West k = rw velocity_neg
 column_turned RowsColumns West k = refl
-column_turned RowsColumns East k = refl
-column_turned RowsColumns South k = refl
-column_turned RowsColumns North k = refl
-
-ghost_flip_low : (s : Side) (low high : Hand) (k : Column) → ((b : ℕ) → (ghost (Fed 0 b) low k).normal ≡ neg_ℤ (ghost (Fed 0 b) high k).normal) → ghost s low (flip_column k) ≡ flip_column (ghost s high k)
-ghost_flip_low Wall low high k e = refl
-ghost_flip_low Open low high k e = refl
-ghost_flip_low (Held a) low high k e = refl
-ghost_flip_low (Fed a b) low high k e = ap (λ v. record { bed = k.bed; depth = a; normal = v; along = pos 0 }) (e b)
-
-ghost_counter : (s : Side) (hand : Hand) (k : Column) → ghost s hand (counter_column k) ≡ counter_column (ghost s hand k)
-ghost_counter Wall hand k = refl
-ghost_counter Open hand k = refl
-ghost_counter (Held a) hand k = refl
-ghost_counter (Fed a b) hand k = refl
-
-ghost_swap : (s : Side) (hand to : Hand) (k : Column) → ((b : ℕ) → (ghost (Fed 0 b) hand k).normal ≡ (ghost (Fed 0 b) to k).normal) → ghost s hand k ≡ ghost s to k
-ghost_swap Wall hand to k e = refl
-ghost_swap Open hand to k e = refl
-ghost_swap (Held a) hand to k e = refl
-ghost_swap (Fed a b) hand to k e = ap (λ v. record { bed = k.bed; depth = a; normal = v; along = pos 0 }) (e b)
+column_turned RowsColumns hand k = refl
+column_turned τ hand k = rw velocity_neg
 
 ghost_turned : (τ : Turn) (hand : Hand) (s : Side) (k : Column) → ghost s hand (turned_column τ hand k) ≡ turned_column τ hand (ghost s (turned_hand τ hand) k)
-ghost_turned EastWest West s k = ghost_flip_low s West East k (λ b. sym (neg_ℤ-neg_ℤ (pos b)))
-ghost_turned EastWest East s k = ghost_flip_low s East West k (λ b. refl)
-ghost_turned EastWest South s k = ghost_counter s South k
-ghost_turned EastWest North s k = ghost_counter s North k
-ghost_turned SouthNorth West s k = ghost_counter s West k
-ghost_turned SouthNorth East s k = ghost_counter s East k
-ghost_turned SouthNorth South s k = ghost_flip_low s South North k (λ b. sym (neg_ℤ-neg_ℤ (pos b)))
-ghost_turned SouthNorth North s k = ghost_flip_low s North South k (λ b. refl)
-ghost_turned RowsColumns West s k = ghost_swap s West South k (λ b. refl)
-ghost_turned RowsColumns East s k = ghost_swap s East North k (λ b. refl)
-ghost_turned RowsColumns South s k = ghost_swap s South West k (λ b. refl)
-ghost_turned RowsColumns North s k = ghost_swap s North East k (λ b. refl)
-
-side_flip : (b : ℤ) (k : Column) → above b (flip_column k) ≡ flip_side (above b k)
-side_flip b k =
-    let d : ℕ = positive ((pos k.depth +ℤ k.bed) -ℤ b) in
-    ap (λ v. record { depth = d; normal = v; along = where_wet d k.along }) (where_wet_neg d k.normal)
-
-side_counter : (b : ℤ) (k : Column) → above b (counter_column k) ≡ counter_side (above b k)
-side_counter b k =
-    let d : ℕ = positive ((pos k.depth +ℤ k.bed) -ℤ b) in
-    ap (λ v. record { depth = d; normal = where_wet d k.normal; along = v }) (where_wet_neg d k.along)
-
-meet_flip : (a b : Column) → meet (flip_column b) (flip_column a) ≡ flip (meet a b)
-meet_flip a b =
-    ap₂ (λ x y. record { left = x; right = y }) (side_flip (greater b.bed a.bed) b) (side_flip (greater b.bed a.bed) a)
-    ∙ ap (λ g. record { left = flip_side (above g b); right = flip_side (above g a) }) (greater_swap b.bed a.bed)
-
-meet_counter : (a b : Column) → meet (counter_column a) (counter_column b) ≡ counter (meet a b)
-meet_counter a b = ap₂ (λ x y. record { left = x; right = y }) (side_counter (greater a.bed b.bed) a) (side_counter (greater a.bed b.bed) b)
+ghost_turned EastWest West (Fed a b) k = rw neg_ℤ-neg_ℤ
+ghost_turned EastWest East (Fed a b) k = refl
+ghost_turned EastWest South (Fed a b) k = refl
+ghost_turned EastWest North (Fed a b) k = refl
+ghost_turned SouthNorth West (Fed a b) k = refl
+ghost_turned SouthNorth East (Fed a b) k = refl
+ghost_turned SouthNorth South (Fed a b) k = rw neg_ℤ-neg_ℤ
+ghost_turned SouthNorth North (Fed a b) k = refl
+ghost_turned RowsColumns West (Fed a b) k = refl
+ghost_turned RowsColumns East (Fed a b) k = refl
+ghost_turned RowsColumns South (Fed a b) k = refl
+ghost_turned RowsColumns North (Fed a b) k = refl
+ghost_turned τ hand s k = refl
 
 face_of_turned : (τ : Turn) (hand : Hand) (a b : Column) → face_of hand (turned_column τ hand a) (turned_column τ hand b) ≡ turned_face τ hand (face_of (turned_hand τ hand) a b)
-face_of_turned EastWest West a b = meet_flip a b
-face_of_turned EastWest East a b = meet_flip b a
-face_of_turned EastWest South a b = meet_counter b a
-face_of_turned EastWest North a b = meet_counter a b
-face_of_turned SouthNorth West a b = meet_counter b a
-face_of_turned SouthNorth East a b = meet_counter a b
-face_of_turned SouthNorth South a b = meet_flip a b
-face_of_turned SouthNorth North a b = meet_flip b a
+face_of_turned EastWest South a b = simp where_wet_neg
+face_of_turned EastWest North a b = simp where_wet_neg
+face_of_turned SouthNorth West a b = simp where_wet_neg
+face_of_turned SouthNorth East a b = simp where_wet_neg
 face_of_turned RowsColumns West a b = refl
-face_of_turned RowsColumns East a b = refl
-face_of_turned RowsColumns South a b = refl
-face_of_turned RowsColumns North a b = refl
+face_of_turned RowsColumns hand a b = refl
+face_of_turned τ hand a b = rw (greater_swap a.bed b.bed) (simp where_wet_neg)
 
 -- ---- places
 
@@ -178,9 +117,7 @@ cell_turned τ t r c h k = grid_at (high τ t) (wide τ t) (λ i j. turned_cell 
 
 side_turned : (τ : Turn) (t : Table) (hand : Hand) → side_at (turned_table τ t) hand ≡ side_at t (turned_hand τ hand)
 side_turned τ t West = refl
-side_turned τ t East = refl
-side_turned τ t South = refl
-side_turned τ t North = refl
+side_turned τ t hand = refl
 
 -- a cell of the turned sheet, and the cell that came there, both have a side of the sheet to a hand, or have neighbours that come to one another
 data Meeting (τ : Turn) (t : Table) (r c : ℕ) (hand : Hand) : Type 0 where
@@ -189,76 +126,51 @@ data Meeting (τ : Turn) (t : Table) (r c : ℕ) (hand : Hand) : Type 0 where
       neighbour (turned_table τ t) r c hand ≡ Some q → neighbour t (came τ t r c).row (came τ t r c).column (turned_hand τ hand) ≡ Some (came τ t q.row q.column) → Meeting τ t r c hand
 
 meeting : (τ : Turn) (hand : Hand) (t : Table) (r c : ℕ) → r < high τ t → c < wide τ t → Meeting τ t r c hand
-meeting EastWest West t r zero h k = at_a_side refl (east_none t r (mirrored t.columns 0) (omega (arith, mirrored_in t.columns 0 k)))
+meeting EastWest West t r zero h k = at_a_side refl (rw (le-ltb (mirrored t.columns 0 + 1) t.columns (omega (arith, mirrored_in t.columns 0 k))))
 meeting EastWest West t r (suc c) h k =
     let l : c < t.columns = omega arith in
-    next_to (record { row = r; column = c }) h l refl
-    (east_some t r (mirrored t.columns (suc c)) (mirrored t.columns c) (mirrored_below t.columns c l) (omega (arith, mirrored_in t.columns (suc c) k, mirrored_in t.columns c l)))
+    let e : mirrored t.columns (suc c) + 1 ≡ mirrored t.columns c = omega (arith, mirrored_in t.columns (suc c) k, mirrored_in t.columns c l) in
+    next_to (record { row = r; column = c }) h l refl (rw (e, lt-ltb (mirrored t.columns c) t.columns (mirrored_below t.columns c l)))
 meeting EastWest East t r c h k =
-    elim (cases_lt (c + 1) t.columns) [
-      | inl l ↦ next_to (record { row = r; column = c + 1 }) h l (east_some (turned_table EastWest t) r c (c + 1) l refl)
-          (west_some t r (mirrored t.columns c) (mirrored t.columns (c + 1)) (omega (arith, mirrored_in t.columns c k, mirrored_in t.columns (c + 1) l)))
-      | inr l ↦ at_a_side (east_none (turned_table EastWest t) r c l) (west_none t r (mirrored t.columns c) (omega (arith, mirrored_in t.columns c k)))
-    ]
-meeting EastWest South t zero c h k = at_a_side refl refl
+    ⊎_elim
+    (λ (l : c + 1 < t.columns).
+    let e : mirrored t.columns c ≡ suc (mirrored t.columns (c + 1)) = omega (arith, mirrored_in t.columns c k, mirrored_in t.columns (c + 1) l) in
+    next_to (record { row = r; column = c + 1 }) h l (rw lt-ltb) (rw e))
+    (λ (l : t.columns ≤ c + 1). let e : mirrored t.columns c ≡ 0 = omega (arith, mirrored_in t.columns c k) in at_a_side (rw le-ltb) (rw e)) (cases_lt (c + 1) t.columns)
 meeting EastWest South t (suc r) c h k = next_to (record { row = r; column = c }) (omega arith) k refl refl
 meeting EastWest North t r c h k =
-    elim (cases_lt (r + 1) t.rows) [
-      | inl l ↦ next_to (record { row = r + 1; column = c }) l k (north_some (turned_table EastWest t) r c (r + 1) l refl) (north_some t r (mirrored t.columns c) (r + 1) l refl)
-      | inr l ↦ at_a_side (north_none (turned_table EastWest t) r c l) (north_none t r (mirrored t.columns c) l)
-    ]
-meeting SouthNorth West t r zero h k = at_a_side refl refl
+    ⊎_elim (λ (l : r + 1 < t.rows). next_to (record { row = r + 1; column = c }) l k (rw lt-ltb) (rw (lt-ltb (r + 1) t.rows l))) (λ (l : t.rows ≤ r + 1). at_a_side (rw le-ltb) (rw (le-ltb (r + 1) t.rows l))) (cases_lt (r + 1) t.rows)
 meeting SouthNorth West t r (suc c) h k = next_to (record { row = r; column = c }) h (omega arith) refl refl
 meeting SouthNorth East t r c h k =
-    elim (cases_lt (c + 1) t.columns) [
-      | inl l ↦ next_to (record { row = r; column = c + 1 }) h l (east_some (turned_table SouthNorth t) r c (c + 1) l refl) (east_some t (mirrored t.rows r) c (c + 1) l refl)
-      | inr l ↦ at_a_side (east_none (turned_table SouthNorth t) r c l) (east_none t (mirrored t.rows r) c l)
-    ]
-meeting SouthNorth South t zero c h k = at_a_side refl (north_none t (mirrored t.rows 0) c (omega (arith, mirrored_in t.rows 0 h)))
+    ⊎_elim (λ (l : c + 1 < t.columns). next_to (record { row = r; column = c + 1 }) h l (rw lt-ltb) (rw (lt-ltb (c + 1) t.columns l))) (λ (l : t.columns ≤ c + 1). at_a_side (rw le-ltb) (rw (le-ltb (c + 1) t.columns l))) (cases_lt (c + 1) t.columns)
+meeting SouthNorth South t zero c h k = at_a_side refl (rw (le-ltb (mirrored t.rows 0 + 1) t.rows (omega (arith, mirrored_in t.rows 0 h))))
 meeting SouthNorth South t (suc r) c h k =
     let l : r < t.rows = omega arith in
-    next_to (record { row = r; column = c }) l k refl
-    (north_some t (mirrored t.rows (suc r)) c (mirrored t.rows r) (mirrored_below t.rows r l) (omega (arith, mirrored_in t.rows (suc r) h, mirrored_in t.rows r l)))
+    let e : mirrored t.rows (suc r) + 1 ≡ mirrored t.rows r = omega (arith, mirrored_in t.rows (suc r) h, mirrored_in t.rows r l) in
+    next_to (record { row = r; column = c }) l k refl (rw (e, lt-ltb (mirrored t.rows r) t.rows (mirrored_below t.rows r l)))
 meeting SouthNorth North t r c h k =
-    elim (cases_lt (r + 1) t.rows) [
-      | inl l ↦ next_to (record { row = r + 1; column = c }) l k (north_some (turned_table SouthNorth t) r c (r + 1) l refl)
-          (south_some t (mirrored t.rows r) c (mirrored t.rows (r + 1)) (omega (arith, mirrored_in t.rows r h, mirrored_in t.rows (r + 1) l)))
-      | inr l ↦ at_a_side (north_none (turned_table SouthNorth t) r c l) (south_none t (mirrored t.rows r) c (omega (arith, mirrored_in t.rows r h)))
-    ]
-meeting RowsColumns West t r zero h k = at_a_side refl refl
+    ⊎_elim
+    (λ (l : r + 1 < t.rows).
+    let e : mirrored t.rows r ≡ suc (mirrored t.rows (r + 1)) = omega (arith, mirrored_in t.rows r h, mirrored_in t.rows (r + 1) l) in
+    next_to (record { row = r + 1; column = c }) l k (rw lt-ltb) (rw e))
+    (λ (l : t.rows ≤ r + 1). let e : mirrored t.rows r ≡ 0 = omega (arith, mirrored_in t.rows r h) in at_a_side (rw le-ltb) (rw e)) (cases_lt (r + 1) t.rows)
 meeting RowsColumns West t r (suc c) h k = next_to (record { row = r; column = c }) h (omega arith) refl refl
 meeting RowsColumns East t r c h k =
-    elim (cases_lt (c + 1) t.rows) [
-      | inl l ↦ next_to (record { row = r; column = c + 1 }) h l (east_some (turned_table RowsColumns t) r c (c + 1) l refl) (north_some t c r (c + 1) l refl)
-      | inr l ↦ at_a_side (east_none (turned_table RowsColumns t) r c l) (north_none t c r l)
-    ]
-meeting RowsColumns South t zero c h k = at_a_side refl refl
+    ⊎_elim (λ (l : c + 1 < t.rows). next_to (record { row = r; column = c + 1 }) h l (rw lt-ltb) (rw lt-ltb)) (λ (l : t.rows ≤ c + 1). at_a_side (rw le-ltb) (rw le-ltb)) (cases_lt (c + 1) t.rows)
 meeting RowsColumns South t (suc r) c h k = next_to (record { row = r; column = c }) (omega arith) k refl refl
 meeting RowsColumns North t r c h k =
-    elim (cases_lt (r + 1) t.columns) [
-      | inl l ↦ next_to (record { row = r + 1; column = c }) l k (north_some (turned_table RowsColumns t) r c (r + 1) l refl) (east_some t c r (r + 1) l refl)
-      | inr l ↦ at_a_side (north_none (turned_table RowsColumns t) r c l) (east_none t c r l)
-    ]
+    ⊎_elim (λ (l : r + 1 < t.columns). next_to (record { row = r + 1; column = c }) l k (rw lt-ltb) (rw lt-ltb)) (λ (l : t.columns ≤ r + 1). at_a_side (rw le-ltb) (rw le-ltb)) (cases_lt (r + 1) t.columns)
+meeting τ hand t r c h k = at_a_side refl refl
 
 -- ---- faces
 
 module _ (τ : Turn) (t : Table) (r c : ℕ) (h : r < high τ t) (k : c < wide τ t) where
   own_turned : (hand : Hand) → column hand (cell_at (turned_table τ t) r c) ≡ turned_column τ hand (column (turned_hand τ hand) (came_cell τ t r c))
-  own_turned hand = ap (column hand) (cell_turned τ t r c h k) ∙ column_turned τ hand (came_cell τ t r c)
+  own_turned hand = rw (cell_turned τ t r c h k, column_turned)
 
   beyond_met : (hand : Hand) → Meeting τ t r c hand → beyond (turned_table τ t) r c hand ≡ turned_column τ hand (beyond t (came τ t r c).row (came τ t r c).column (turned_hand τ hand))
-  beyond_met hand (at_a_side e e') =
-      ap (seen (turned_table τ t) r c hand) e
-      ∙ (ap₂ (λ s x. ghost s hand x) (side_turned τ t hand) (own_turned hand)
-      ∙ (ghost_turned τ hand (side_at t (turned_hand τ hand)) (column (turned_hand τ hand) (came_cell τ t r c))
-      ∙ ap (λ o. turned_column τ hand (seen t (came τ t r c).row (came τ t r c).column (turned_hand τ hand) o)) (sym e')))
-  beyond_met hand (next_to q i j e e') =
-      ap (seen (turned_table τ t) r c hand) e
-      ∙ (ap (column hand) (cell_turned τ t q.row q.column i j)
-      ∙ (column_turned τ hand (came_cell τ t q.row q.column)
-      ∙ ap (λ o. turned_column τ hand (seen t (came τ t r c).row (came τ t r c).column (turned_hand τ hand) o)) (sym e')))
+  beyond_met hand (at_a_side e e') = rw (e, e', side_turned τ t hand, own_turned hand, ghost_turned)
+  beyond_met hand (next_to q i j e e') = rw (e, e', cell_turned τ t q.row q.column i j, column_turned)
 
   pub face_turned : (hand : Hand) → face (turned_table τ t) r c hand ≡ turned_face τ hand (face t (came τ t r c).row (came τ t r c).column (turned_hand τ hand))
-  face_turned hand =
-      ap₂ (face_of hand) (own_turned hand) (beyond_met hand (meeting τ hand t r c h k))
-      ∙ face_of_turned τ hand (column (turned_hand τ hand) (came_cell τ t r c)) (beyond t (came τ t r c).row (came τ t r c).column (turned_hand τ hand))
+  face_turned hand = rw (own_turned hand, beyond_met hand (meeting τ hand t r c h k), face_of_turned)

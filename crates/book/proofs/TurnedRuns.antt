@@ -1,46 +1,27 @@
 -- Lists of calls and of turns: turned sheets answer alike.
-use Rattle.std.proofs.Common.{◌≡◌, ℕ, List, [], ◌∷◌, map, sym, refl, ap, ◌∙◌, subst, ap₂, inl, inr, arith}
+use Rattle.std.proofs.Common.{◌≡◌, ℕ, List, [], ◌∷◌, map, sym, refl, ap, ◌∙◌, subst, ap₂, inl, inr}
 use Rattle.book.specs.declared.call.Call.{Call}
-use Rattle.book.specs.declared.call.Call.TheVariants.{Prepare, Lay, Open as Opening, Step, Rain, Soak, ChangeSide, AskCell, AskAccount, AskStanding, AskSlowestRate, Close}
+use Rattle.book.specs.declared.call.Call.TheVariants.{Prepare}
 use Rattle.rules.specs.Flux.{LawfulFlux}
 use Rattle.rules.specs.Friction.{LawfulFriction}
 use Rattle.book.specs.declared.turn.Turn.{Turn}
-use Rattle.book.specs.declared.turn.Turn.TheVariants.{EastWest, SouthNorth, RowsColumns}
+use Rattle.book.specs.declared.turn.Turn.TheVariants.{EastWest}
 use Rattle.book.specs.Step.{Rules}
-use Rattle.book.specs.Calls.{Book, Page, start, closed, empty_book, stage_of, accepted, answer, after, replies, book_after, replies_to}
+use Rattle.book.specs.Calls.{Book, Page, empty_book, stage_of, accepted, answer, after, replies, book_after, replies_to}
 use Rattle.book.specs.Turns.{turned_rows, turned_columns, turned_call, turned_reply, turned_book, turned_calls, turned_books, turned_replies}
 use Rattle.book.proofs.Sound.{SoundBook}
 use Rattle.book.specs.Laws.{OfSize}
 use Rattle.book.proofs.Judged.{answer_book}
 use Rattle.book.proofs.Soundness.{answer_sound}
-use Rattle.book.proofs.TurnedCalls.{answer_turned, preparing_not, serving_not}
+use Rattle.book.proofs.TurnedCalls.{answer_turned}
 
 -- ---- the size stays from the preparing on
-
-closed_not : closed ≡ start → ⊥
-closed_not e = let z : ◌≡◌ {A = ℕ} 0 1 = cc in omega arith
 
 module _ (rules : Rules) (rows columns : ℕ) where
   size_accepted : (b : Book) (x : Call) → b.stage ≡ stage_of x → OfSize rows columns (accepted rules b x).book → OfSize rows columns b
   size_accepted b (Prepare r c w) e s = inl e
-  size_accepted b (Lay r c bed depth) e (inl s) = absurd (preparing_not s)
-  size_accepted b (Lay r c bed depth) e (inr s) = inr s
-  size_accepted b Opening e (inl s) = absurd (serving_not s)
-  size_accepted b Opening e (inr s) = inr s
-  size_accepted b (Step rate) e (inl s) = absurd (serving_not s)
-  size_accepted b (Step rate) e (inr s) = inr s
-  size_accepted b (Rain n) e (inl s) = absurd (serving_not s)
-  size_accepted b (Rain n) e (inr s) = inr s
-  size_accepted b (Soak n) e (inl s) = absurd (serving_not s)
-  size_accepted b (Soak n) e (inr s) = inr s
-  size_accepted b (ChangeSide n kind x y) e (inl s) = absurd (serving_not s)
-  size_accepted b (ChangeSide n kind x y) e (inr s) = inr s
-  size_accepted b (AskCell r c) e s = s
-  size_accepted b AskAccount e s = s
-  size_accepted b AskStanding e s = s
-  size_accepted b AskSlowestRate e s = s
-  size_accepted b Close e (inl s) = absurd (closed_not s)
-  size_accepted b Close e (inr s) = inr s
+  size_accepted b x e (inl s) = cc
+  size_accepted b x e (inr s) = inr s
 
   size_before : (calls : List Call) (b : Book) → OfSize rows columns (after rules b calls) → OfSize rows columns b
   size_before [] b s = s
@@ -52,35 +33,29 @@ of_size_turned τ rows columns b (inr s) = inr (ap₂ (turned_rows τ) s.0 s.1, 
 
 first_turned : (τ : Turn) → empty_book ≡ turned_book τ empty_book
 first_turned EastWest = refl
-first_turned SouthNorth = refl
-first_turned RowsColumns = refl
+first_turned τ = refl
 
 module _ (rules : Rules) (flux : LawfulFlux rules.water rules.push) (friction : LawfulFriction rules.slowed) where
   -- ---- one turn of a list of calls
 
   module _ (τ : Turn) (rows columns : ℕ) where
-    books_from : (calls : List Call) (b : Book) → SoundBook b → OfSize rows columns (after rules b calls) → after rules (turned_book τ b) (map (turned_call τ rows columns) calls) ≡ turned_book τ (after rules b calls)
-    books_from [] b sound s = refl
-    books_from (x ∷ xs) b sound s =
-        ap (λ (p : Page). after rules p.book (map (turned_call τ rows columns) xs)) (answer_turned τ rows columns b (size_before rules rows columns (x ∷ xs) b s) rules flux friction sound x)
-        ∙ books_from xs (answer rules b x).book (answer_sound rules friction b x sound) s
+    -- from a book and the turned book on
+    run : (calls : List Call) (b b' : Book) → b' ≡ turned_book τ b → SoundBook b → OfSize rows columns (after rules b calls) →
+        (after rules b' (map (turned_call τ rows columns) calls) ≡ turned_book τ (after rules b calls)) × (replies rules b' (map (turned_call τ rows columns) calls) ≡ map (turned_reply τ) (replies rules b calls))
+    run [] b b' e sound s = (e, refl)
+    run (x ∷ xs) b b' e sound s =
+        let one = ap (λ c. answer rules c (turned_call τ rows columns x)) e ∙ answer_turned τ rows columns b (size_before rules rows columns (x ∷ xs) b s) rules flux friction sound x in
+        let rest = run xs (answer rules b x).book _ (ap (λ (p : Page). p.book) one) (answer_sound rules friction b x sound) s in
+        (rest.0, ap₂ (λ r rs. r ∷ rs) (ap (λ (p : Page). p.reply) one) rest.1)
 
-    replies_from : (calls : List Call) (b : Book) → SoundBook b → OfSize rows columns (after rules b calls) → replies rules (turned_book τ b) (map (turned_call τ rows columns) calls) ≡ map (turned_reply τ) (replies rules b calls)
-    replies_from [] b sound s = refl
-    replies_from (x ∷ xs) b sound s =
-        ap (λ (p : Page). p.reply ∷ replies rules p.book (map (turned_call τ rows columns) xs)) (answer_turned τ rows columns b (size_before rules rows columns (x ∷ xs) b s) rules flux friction sound x)
-        ∙ ap (λ rs. turned_reply τ (answer rules b x).reply ∷ rs) (replies_from xs (answer rules b x).book (answer_sound rules friction b x sound) s)
-
-    one_turn_books : (calls : List Call) → OfSize rows columns (book_after rules calls) → book_after rules (map (turned_call τ rows columns) calls) ≡ turned_book τ (book_after rules calls)
-    one_turn_books calls s = ap (λ b. after rules b (map (turned_call τ rows columns) calls)) (first_turned τ) ∙ books_from calls empty_book refl s
-
-    one_turn_replies : (calls : List Call) → OfSize rows columns (book_after rules calls) → replies_to rules (map (turned_call τ rows columns) calls) ≡ map (turned_reply τ) (replies_to rules calls)
-    one_turn_replies calls s = ap (λ b. replies rules b (map (turned_call τ rows columns) calls)) (first_turned τ) ∙ replies_from calls empty_book refl s
+    one_turn : (calls : List Call) → OfSize rows columns (book_after rules calls) →
+        (book_after rules (map (turned_call τ rows columns) calls) ≡ turned_book τ (book_after rules calls)) × (replies_to rules (map (turned_call τ rows columns) calls) ≡ map (turned_reply τ) (replies_to rules calls))
+    one_turn calls s = run calls empty_book empty_book (first_turned τ) refl s
 
     size_after_turn : (calls : List Call) → OfSize rows columns (book_after rules calls) →
         OfSize (turned_rows τ rows columns) (turned_columns τ rows columns) (book_after rules (map (turned_call τ rows columns) calls))
     size_after_turn calls s =
-        subst (OfSize (turned_rows τ rows columns) (turned_columns τ rows columns)) (sym (one_turn_books calls s)) (of_size_turned τ rows columns (book_after rules calls) s)
+        subst (OfSize (turned_rows τ rows columns) (turned_columns τ rows columns)) (sym (one_turn calls s).0) (of_size_turned τ rows columns (book_after rules calls) s)
 
   -- ---- the two laws
 
@@ -88,10 +63,10 @@ module _ (rules : Rules) (flux : LawfulFlux rules.water rules.push) (friction : 
   turned_books_alike [] rows columns calls s = refl
   turned_books_alike (τ ∷ τs) rows columns calls s =
       turned_books_alike τs (turned_rows τ rows columns) (turned_columns τ rows columns) (map (turned_call τ rows columns) calls) (size_after_turn τ rows columns calls s)
-      ∙ ap (turned_books τs) (one_turn_books τ rows columns calls s)
+      ∙ ap (turned_books τs) (one_turn τ rows columns calls s).0
 
   pub turned_replies_alike : (τs : List Turn) (rows columns : ℕ) (calls : List Call) → OfSize rows columns (book_after rules calls) → replies_to rules (turned_calls τs rows columns calls) ≡ turned_replies τs (replies_to rules calls)
   turned_replies_alike [] rows columns calls s = refl
   turned_replies_alike (τ ∷ τs) rows columns calls s =
       turned_replies_alike τs (turned_rows τ rows columns) (turned_columns τ rows columns) (map (turned_call τ rows columns) calls) (size_after_turn τ rows columns calls s)
-      ∙ ap (turned_replies τs) (one_turn_replies τ rows columns calls s)
+      ∙ ap (turned_replies τs) (one_turn τ rows columns calls s).1
