@@ -3,12 +3,12 @@ use Rattle.std.proofs.Common.{◌≡◌, ℕ, zero, suc, ◌+◌, ◌*◌, ◌/�
 use native.Mathlib.Nat.{zero-div, div-zero, le_of_mul-le-mul_right}
 use lib.IntN.{neg_ℤ-neg_ℤ, zero-*ℤ}
 use lib.Signed.{lt_z}
-use Rattle.std.proofs.lemmas.Int.{ints}
+use Rattle.std.proofs.lemmas.Int.{ints, unsigned_abs-mul}
 use Rattle.std.proofs.lemmas.Bool.{lt-ltb}
 use Rattle.std.proofs.lemmas.Bool.Decides.{nat_tests}
 use Rattle.book.specs.Ranges.{max_depth, max_velocity, outside}
 use Rattle.book.specs.Numbers.{trunc, share, film, thinned, positive, greater, velocity, where_wet, friction_speed}
-use Rattle.rules.specs.Ints.{mul_neg, neg_mul, abs_mul, quot_neg, abs_quot}
+use Rattle.rules.specs.Ints.{mul_neg, neg_mul, quot_neg, abs_quot}
 
 -- ---- signs
 
@@ -114,7 +114,7 @@ pub flow_slow : (q : ℤ) (h : ℕ) → 1 ≤ h → nat_abs q < suc max_velocity
 flow_slow q h p s = omega (arith, velocity_abs q h p, (div-lt_iff_lt-mul {x = nat_abs q} {y = suc max_velocity} p).1 s)
 
 pub times_slow : (h : ℕ) (v : ℤ) → 1 ≤ h → nat_abs v ≤ max_velocity → nat_abs (velocity (pos h *ℤ v) h) ≤ max_velocity
-times_slow h v p s = flow_slow (pos h *ℤ v) h p (omega (arith, abs_mul (pos h) v, mul-le-mul_left h s))
+times_slow h v p s = flow_slow (pos h *ℤ v) h p (omega (arith, unsigned_abs-mul (pos h) v, mul-le-mul_left h s))
 
 pub more_slow : (q : ℤ) (d r : ℕ) → (d ≡ 0 → q ≡ pos 0) → nat_abs (velocity q d) ≤ max_velocity → nat_abs (velocity q (d + r)) ≤ max_velocity
 more_slow q zero r dry s = rw (dry refl) (still_slow (0 + r))

@@ -16,9 +16,6 @@ neg_mul a b = grind (arith, ints)
 pub mul_sub : (a b c : ℤ) → a *ℤ (b -ℤ c) ≡ a *ℤ b -ℤ a *ℤ c
 mul_sub a b c = omega (arith, ints, mul_neg a c, ap (λ (t : ℕ). up a * t) (sum_is_lem b (neg_ℤ c)), ap (λ (t : ℕ). down a * t) (sum_is_lem b (neg_ℤ c)))
 
-pub abs_mul : (a b : ℤ) → unsigned_abs (a *ℤ b) ≡ unsigned_abs a * unsigned_abs b
-abs_mul a b = unsigned_abs-mul a b
-
 pub near_mul : (a b : ℤ) (m n : ℕ) → unsigned_abs a ≤ m → unsigned_abs b ≤ n → unsigned_abs (a *ℤ b) ≤ m * n
 near_mul a b m n h k = rw unsigned_abs-mul (mul-le _ _ m n h k)
 
