@@ -16,6 +16,7 @@ use rules::friction::bare_bed::BareBed;
 use rules::friction::weed::Weed;
 
 // What every list of calls keeps, under every flux and every friction, by their meaning, that keep their laws.
+#[tactic(auto, using(crate::proofs::WaterLaws::water_laws_hold))]
 pub fn lawful_water()
     ensures { WaterLawsHold }
 {}
