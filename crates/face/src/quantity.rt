@@ -1,9 +1,11 @@
 // The numbers of a question, by name, each with its range.
 ghost use Rattle.std.specs.Prelude.{◌≡◌, true, false, pos, ◌≤ℤ◌, MatchResult};
+ghost use Rattle.std.specs.Range.{range_inclusive_start, range_inclusive_end, range_inclusive_exhausted};
 ghost use Rattle.face.specs.Quantities.{least_of, greatest_of, within, of_rule};
 
 use std::error::Error;
 use std::fmt;
+use std::ops::RangeInclusive;
 
 // A side of a face.
 #[derive(Clone, Copy, Debug, PartialEq, Eq)]
@@ -34,37 +36,22 @@ pub enum OutOfRange {
 }
 
 impl Quantity {
-    pub(crate) fn least(self) -> i64
-        ensures { result ≡ least_of self }
+    fn range(self) -> RangeInclusive<i64>
+        ensures least { range_inclusive_start result ≡ least_of self }
+        ensures greatest { range_inclusive_end result ≡ greatest_of self }
+        ensures fresh { range_inclusive_exhausted result ≡ false }
     {
         match self {
-            Quantity::Depth => 0,
-            Quantity::FluxNumber => 1,
-            Quantity::SideDepth { bank: _ } => 0,
-            Quantity::SideVelocity { bank: _ } => -10_000,
-            Quantity::Coefficient => 0,
-            Quantity::Strength => 0,
-            Quantity::Flow => -30_000_000_000,
-            Quantity::Speed => 0,
-            Quantity::NewDepth => 1,
-            Quantity::Rate => 1,
-        }
-    }
-
-    pub(crate) fn greatest(self) -> i64
-        ensures { result ≡ greatest_of self }
-    {
-        match self {
-            Quantity::Depth => 4_294_967_295,
-            Quantity::FluxNumber => 2,
-            Quantity::SideDepth { bank: _ } => 2_000_000,
-            Quantity::SideVelocity { bank: _ } => 10_000,
-            Quantity::Coefficient => 1_000,
-            Quantity::Strength => 1_000_000_000,
-            Quantity::Flow => 30_000_000_000,
-            Quantity::Speed => 10_000,
-            Quantity::NewDepth => 2_000_000,
-            Quantity::Rate => 1_000,
+            Quantity::Depth => 0..=4_294_967_295,
+            Quantity::FluxNumber => 1..=2,
+            Quantity::SideDepth { bank: _ } => 0..=2_000_000,
+            Quantity::SideVelocity { bank: _ } => -10_000..=10_000,
+            Quantity::Coefficient => 0..=1_000,
+            Quantity::Strength => 0..=1_000_000_000,
+            Quantity::Flow => -30_000_000_000..=30_000_000_000,
+            Quantity::Speed => 0..=10_000,
+            Quantity::NewDepth => 1..=2_000_000,
+            Quantity::Rate => 1..=1_000,
         }
     }
 
@@ -72,7 +59,7 @@ impl Quantity {
     pub(crate) fn checked(self, value: i64) -> Result<i64, OutOfRange>
         ensures { MatchResult result (λ same. (same ≡ value) × (within self value ≡ true) × (least_of self ≤ℤ same) × (same ≤ℤ greatest_of self)) (λ out. (out ≡ OutOfRange.Beyond self value) × (within self value ≡ false)) }
     {
-        if self.least() <= value && value <= self.greatest() {
+        if self.range().contains(&value) {
             Ok(value)
         } else {
             Err(OutOfRange::Beyond {
@@ -138,8 +125,7 @@ impl fmt::Display for OutOfRange {
                 } else {
                     "out of range"
                 };
-                let least = quantity.least();
-                let greatest = quantity.greatest();
+                let (least, greatest) = quantity.range().into_inner();
                 write!(
                     f,
                     "{cause}: the {quantity} {value} is not {least} to {greatest}"
