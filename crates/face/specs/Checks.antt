@@ -2,8 +2,8 @@
 use Rattle.std.specs.Prelude.{◌≡◌, cond, ◌&&◌, ℤ, pos, Ok, Err, Result, Some, None, Option, ◌==◌, nat_lt, unsigned_abs}
 use Rattle.rules.specs.declared.side.FaceSide.{FaceSide}
 use Rattle.rules.specs.declared.friction.stream.Stream.{Stream}
-use Rattle.face.specs.declared.quantity.Bank.{Bank}
-use Rattle.face.specs.declared.quantity.Bank.TheVariants.{Left, Right}
+use Rattle.face.specs.declared.quantity.Side.{Side}
+use Rattle.face.specs.declared.quantity.Side.TheVariants.{Left, Right}
 use Rattle.face.specs.declared.quantity.Quantity.{Quantity}
 use Rattle.face.specs.declared.quantity.Quantity.TheVariants.{Depth, FluxNumber, SideDepth, SideVelocity, Coefficient, Strength, Flow, Speed, NewDepth, Rate}
 use Rattle.face.specs.declared.quantity.OutOfRange.{OutOfRange}
@@ -47,8 +47,8 @@ dry_moving quantity depth velocity = cond (unsigned_abs depth == 0 && nat_lt 0 (
 abbrev pub flux_fault : ℤ → Option OutOfRange
 flux_fault number = beyond FluxNumber number None
 
-unfoldable pub side_fault : Bank → AskedSide → Option OutOfRange
-side_fault bank s = beyond (SideDepth bank) s.depth (beyond (SideVelocity bank) s.velocity (dry_moving (SideVelocity bank) s.depth s.velocity))
+unfoldable pub side_fault : Side → AskedSide → Option OutOfRange
+side_fault side s = beyond (SideDepth side) s.depth (beyond (SideVelocity side) s.velocity (dry_moving (SideVelocity side) s.depth s.velocity))
 
 unfoldable pub stream_fault : AskedStream → Option OutOfRange
 stream_fault s = beyond Flow s.flow (beyond Speed s.speed (beyond NewDepth s.depth (beyond Rate s.rate None)))

@@ -6,8 +6,8 @@ use Rattle.face.specs.declared.quantity.Quantity.TheVariants.{Depth, FluxNumber,
 abbrev pub least_of : Quantity → ℤ
 least_of Depth = pos 0
 least_of FluxNumber = pos 1
-least_of (SideDepth bank) = pos 0
-least_of (SideVelocity bank) = neg_ℤ (pos 10000)
+least_of (SideDepth side) = pos 0
+least_of (SideVelocity side) = neg_ℤ (pos 10000)
 least_of Coefficient = pos 0
 least_of Strength = pos 0
 least_of Flow = neg_ℤ (pos 30000000000)
@@ -18,8 +18,8 @@ least_of Rate = pos 1
 abbrev pub greatest_of : Quantity → ℤ
 greatest_of Depth = pos 4294967295
 greatest_of FluxNumber = pos 2
-greatest_of (SideDepth bank) = pos 2000000
-greatest_of (SideVelocity bank) = pos 10000
+greatest_of (SideDepth side) = pos 2000000
+greatest_of (SideVelocity side) = pos 10000
 greatest_of Coefficient = pos 1000
 greatest_of Strength = pos 1000000000
 greatest_of Flow = pos 30000000000
@@ -34,8 +34,8 @@ within quantity value = int_le (least_of quantity) value && int_le value (greate
 abbrev pub of_rule : Quantity → Bool
 of_rule Depth = false
 of_rule FluxNumber = true
-of_rule (SideDepth bank) = false
-of_rule (SideVelocity bank) = false
+of_rule (SideDepth side) = false
+of_rule (SideVelocity side) = false
 of_rule Coefficient = true
 of_rule Strength = true
 of_rule Flow = false

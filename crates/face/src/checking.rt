@@ -2,7 +2,7 @@
 ghost use Rattle.std.specs.Prelude.{◌≡◌, pos};
 ghost use Rattle.face.specs.Checks.{FirstFault, plain, plain_flux, plain_side, plain_stream, flux_fault, side_fault, stream_fault, bed_fault, weed_fault, fault_of};
 
-use crate::quantity::{Bank, OutOfRange, Quantity};
+use crate::quantity::{OutOfRange, Quantity, Side};
 use crate::question::{Asked, AskedSide, AskedStream, FluxName, Question};
 use rules::face::Face;
 use rules::friction::bare_bed::BareBed;
@@ -22,16 +22,13 @@ pub(crate) fn check(asked: Asked) -> Result<Question, OutOfRange>
             number,
             left,
             right,
-        } => {
-            let name = FluxName::try_from(number)?;
-            let left_side = side(Bank::Left, left)?;
-            let right_side = side(Bank::Right, right)?;
-            let face = Face {
-                left: left_side,
-                right: right_side,
-            };
-            Ok(Question::Flux { name, face })
-        }
+        } => Ok(Question::Flux {
+            name: FluxName::try_from(number)?,
+            face: Face {
+                left: face_side(Side::Left, left)?,
+                right: face_side(Side::Right, right)?,
+            },
+        }),
         Asked::Bare {
             coefficient,
             stream: asked,
@@ -64,11 +61,11 @@ impl TryFrom<i64> for FluxName {
 }
 
 #[tactic(auto, unfolding(crate::specs::Checks::side_fault))]
-fn side(bank: Bank, asked: AskedSide) -> Result<FaceSide, OutOfRange>
-    ensures { FirstFault (side_fault bank asked) (λ side. plain_side side ≡ asked) result }
+fn face_side(side: Side, asked: AskedSide) -> Result<FaceSide, OutOfRange>
+    ensures { FirstFault (side_fault side asked) (λ side. plain_side side ≡ asked) result }
 {
-    let depth = Quantity::SideDepth { bank }.natural(asked.depth)?;
-    let velocity = Quantity::SideVelocity { bank };
+    let depth = Quantity::SideDepth { side }.natural(asked.depth)?;
+    let velocity = Quantity::SideVelocity { side };
     let value = velocity.checked(asked.velocity)?;
     FaceSide::new(depth, value as i32).map_err(|_| OutOfRange::DryMoving { velocity, value })
 }

@@ -9,7 +9,7 @@ use std::ops::RangeInclusive;
 
 // A side of a face.
 #[derive(Clone, Copy, Debug, PartialEq, Eq)]
-pub enum Bank {
+pub enum Side {
     Left,
     Right,
 }
@@ -18,8 +18,8 @@ pub enum Bank {
 pub enum Quantity {
     Depth,
     FluxNumber,
-    SideDepth { bank: Bank },
-    SideVelocity { bank: Bank },
+    SideDepth { side: Side },
+    SideVelocity { side: Side },
     Coefficient,
     Strength,
     Flow,
@@ -44,8 +44,8 @@ impl Quantity {
         match self {
             Quantity::Depth => 0..=4_294_967_295,
             Quantity::FluxNumber => 1..=2,
-            Quantity::SideDepth { bank: _ } => 0..=2_000_000,
-            Quantity::SideVelocity { bank: _ } => -10_000..=10_000,
+            Quantity::SideDepth { side: _ } => 0..=2_000_000,
+            Quantity::SideVelocity { side: _ } => -10_000..=10_000,
             Quantity::Coefficient => 0..=1_000,
             Quantity::Strength => 0..=1_000_000_000,
             Quantity::Flow => -30_000_000_000..=30_000_000_000,
@@ -90,11 +90,11 @@ impl Quantity {
     }
 }
 
-impl fmt::Display for Bank {
+impl fmt::Display for Side {
     fn fmt<W: fmt::Write>(&self, f: &mut fmt::Formatter<W>) -> fmt::Result {
         f.write_str(match self {
-            Bank::Left => "left",
-            Bank::Right => "right",
+            Side::Left => "left",
+            Side::Right => "right",
         })
     }
 }
@@ -104,8 +104,8 @@ impl fmt::Display for Quantity {
         match self {
             Quantity::Depth => f.write_str("depth"),
             Quantity::FluxNumber => f.write_str("flux number"),
-            Quantity::SideDepth { bank } => write!(f, "{bank} depth"),
-            Quantity::SideVelocity { bank } => write!(f, "{bank} velocity"),
+            Quantity::SideDepth { side } => write!(f, "{side} depth"),
+            Quantity::SideVelocity { side } => write!(f, "{side} velocity"),
             Quantity::Coefficient => f.write_str("coefficient"),
             Quantity::Strength => f.write_str("strength"),
             Quantity::Flow => f.write_str("flow"),

@@ -1,5 +1,5 @@
 // Reads the words of a line as a question.
-use crate::quantity::{Bank, Quantity};
+use crate::quantity::{Quantity, Side};
 use crate::question::{Asked, AskedSide, AskedStream};
 use std::error::Error;
 use std::fmt;
@@ -54,8 +54,8 @@ fn asked<'a>(words: &mut SplitWhitespace<'a>) -> Result<Asked, Unreadable<'a>> {
         }),
         "flux" => Ok(Asked::Flux {
             number: number(words, Quantity::FluxNumber)?,
-            left: read_side(words, Bank::Left)?,
-            right: read_side(words, Bank::Right)?,
+            left: read_side(words, Side::Left)?,
+            right: read_side(words, Side::Right)?,
         }),
         "bare" => Ok(Asked::Bare {
             coefficient: number(words, Quantity::Coefficient)?,
@@ -76,10 +76,10 @@ fn number<'a>(words: &mut SplitWhitespace<'a>, quantity: Quantity) -> Result<i64
         .map_err(|_| Unreadable::NoNumber { quantity, word })
 }
 
-fn read_side<'a>(words: &mut SplitWhitespace<'a>, bank: Bank) -> Result<AskedSide, Unreadable<'a>> {
+fn read_side<'a>(words: &mut SplitWhitespace<'a>, side: Side) -> Result<AskedSide, Unreadable<'a>> {
     Ok(AskedSide {
-        depth: number(words, Quantity::SideDepth { bank })?,
-        velocity: number(words, Quantity::SideVelocity { bank })?,
+        depth: number(words, Quantity::SideDepth { side })?,
+        velocity: number(words, Quantity::SideVelocity { side })?,
     })
 }
 
