@@ -26,6 +26,7 @@ pub struct Scratch {
 
 impl Scratch {
     // For a sheet of so many rows, columns and cells; its cells are not laid, and nothing has crossed its faces.
+    #[tactic(auto, using(crate::proofs::Lakes::cells_alike))]
     pub fn new(
         heap: Global,
         rows: usize,
