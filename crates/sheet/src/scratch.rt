@@ -27,6 +27,7 @@ pub struct Scratch {
 impl Scratch {
     // For a sheet of so many rows, columns and cells; its cells are not laid, and nothing has crossed its faces. Three
     // numbers of any size, since a type with a sheet's limits would ask more of callers.
+    #[tactic(auto, using(crate::proofs::Lakes::cells_alike))]
     pub fn new(
         heap: Global,
         rows: usize,

@@ -1,39 +1,36 @@
 -- How much a lawful flux lets through a face.
-use Rattle.std.proofs.Common.{ℕ, ◌*◌, ◌≤◌, ℤ, pos, negsuc, ◌*ℤ◌, neg_ℤ, nat_abs, ◌≤ℤ◌, subst, mul-le-mul, arith}
+use Rattle.std.proofs.Common.{ℕ, ◌*◌, ◌^◌, ◌≤◌, ℤ, pos, ◌*ℤ◌, neg_ℤ, nat_abs, ◌≤ℤ◌, mul-le-mul, arith}
 use Rattle.std.proofs.lemmas.Int.{ints}
-use Rattle.rules.specs.declared.side.FaceSide.{FaceSide}
-use Rattle.rules.specs.Side.{face_pace}
 use Rattle.rules.specs.Flux.{LawfulFlux}
-use Rattle.rules.specs.Ints.{quot_neg}
 use Rattle.rules.specs.Sides.{facing, face_near}
-use Rattle.book.specs.Numbers.{trunc, positive}
+use Rattle.book.specs.Numbers.{trunc}
+use Rattle.book.specs.Faces.{pace}
 use Rattle.book.proofs.Numbers.{quarter_out}
+use Rattle.step.specs.declared.edge.Edges.{Edges}
+use Rattle.step.specs.Columns.{face_seen}
 
-within_both : (w : ℤ) (a b n : ℕ) → w ≤ℤ pos a → neg_ℤ w ≤ℤ pos b → a ≤ n → b ≤ n → nat_abs w ≤ n
-within_both w a b n p q r s = omega (arith, ints)
+quarters : (w : ℤ) (K p l r : ℕ) → w ≤ℤ pos (p * l) → neg_ℤ w ≤ℤ pos (p * r) → 4 * p ≤ K → ((pos 4 *ℤ trunc w K) ≤ℤ pos l) × ((pos 4 *ℤ neg_ℤ (trunc w K)) ≤ℤ pos r)
+quarters w K p l r h k fast = grind (arith, ints, quarter_out w K p l h fast, quarter_out (neg_ℤ w) K p r k fast)
 
-four_times : (z : ℤ) (d : ℕ) → 4 * positive z ≤ d → (pos 4 *ℤ z) ≤ℤ pos d
-four_times (pos n) d h = omega (arith, ints)
-four_times (negsuc n) d h = omega (arith, ints)
+module _ {water push : ℕ → ℤ → ℕ → ℤ → ℤ} (flux : LawfulFlux water push) (edges : Edges) where
+  abbrev at_face : (ℕ → ℤ → ℕ → ℤ → ℤ) → ℤ
+  at_face f = f edges.left.side.depth edges.left.side.normal edges.right.side.depth edges.right.side.normal
 
-module _ (water push : ℕ → ℤ → ℕ → ℤ → ℤ) (flux : LawfulFlux water push) (l r : FaceSide) where
-  abbrev passed : ℤ
-  passed = water l.depth l.normal r.depth r.normal
+  -- no side loses more water than it has, at the pace of the face
+  out : at_face water ≤ℤ pos (pace (face_seen edges) * edges.left.side.depth)
+  out = flux.out_bounded _ _ _ _ (facing edges.left.side) (facing edges.right.side)
 
-  abbrev pace : ℕ
-  pace = face_pace l.depth l.normal r.depth r.normal
+  back : neg_ℤ (at_face water) ≤ℤ pos (pace (face_seen edges) * edges.right.side.depth)
+  back = flux.in_bounded _ _ _ _ (facing edges.left.side) (facing edges.right.side)
 
-  pub water_near : nat_abs passed ≤ 48016000000
+  pub water_near : nat_abs (at_face water) ≤ 48016000000
   water_near =
-      let near : pace ≤ 24008 = face_near l.depth l.normal r.depth r.normal (facing l) (facing r) in
-      within_both passed (pace * l.depth) (pace * r.depth) 48016000000
-      (flux.out_bounded _ _ _ _ (facing l) (facing r)) (flux.in_bounded _ _ _ _ (facing l) (facing r)) (mul-le-mul near l.shallow) (mul-le-mul near r.shallow)
+      let near : pace (face_seen edges) ≤ 24008 = face_near _ _ _ _ (facing edges.left.side) (facing edges.right.side) in
+      omega (arith, ints, out, back, mul-le-mul near edges.left.side.shallow, mul-le-mul near edges.right.side.shallow)
 
-  module _ (K : ℕ) (fast : 4 * pace ≤ K) where
-    pub gives_left : (pos 4 *ℤ trunc passed K) ≤ℤ pos l.depth
-    gives_left = four_times (trunc passed K) l.depth (quarter_out passed K pace l.depth (flux.out_bounded _ _ _ _ (facing l) (facing r)) fast)
+  pub push_near : nat_abs (at_face push) ≤ 10 ^ 17
+  push_near = flux.push_bounded _ _ _ _ (facing edges.left.side) (facing edges.right.side)
 
-    pub gives_right : (pos 4 *ℤ neg_ℤ (trunc passed K)) ≤ℤ pos r.depth
-    gives_right =
-        subst (λ (z : ℤ). (pos 4 *ℤ z) ≤ℤ pos r.depth) (quot_neg passed K)
-        (four_times (trunc (neg_ℤ passed) K) r.depth (quarter_out (neg_ℤ passed) K pace r.depth (flux.in_bounded _ _ _ _ (facing l) (facing r)) fast))
+  -- in a step of a fast enough rate no side gives more than a quarter of its water
+  pub gives : (K : ℕ) → 4 * pace (face_seen edges) ≤ K → ((pos 4 *ℤ trunc (at_face water) K) ≤ℤ pos edges.left.side.depth) × ((pos 4 *ℤ neg_ℤ (trunc (at_face water) K)) ≤ℤ pos edges.right.side.depth)
+  gives K fast = quarters _ K _ _ _ out back fast

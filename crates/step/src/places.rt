@@ -63,6 +63,7 @@ impl<'a> Spot<'a> {
     }
 
     // What lies beyond it to the given hand: its neighbour, or the ghost beyond that side.
+    #[tactic(auto, using(book::proofs::Neighbours::stands, sheet::proofs::Lakes::lake_sound, sheet::proofs::Lakes::ghost_fine))]
     fn beyond(self, hand: Hand) -> Column
         ensures { column_of result ≡ at_spot beyond_place self.entry hand }
     {

@@ -1,17 +1,13 @@
-use Rattle.std.proofs.Common.{refl, arith, lit<}
-use Rattle.rules.specs.Wide.{Wide, given, number, store, times, from32, fits}
+use Rattle.std.proofs.Common.{◌≤◌, ℤ, pos, ◌*ℤ◌, nat_abs, arith}
+use Rattle.std.proofs.lemmas.Int.{ints, to_z-of_z}
+use Rattle.rules.specs.Ints.{near_mul}
 use Rattle.step.proofs.crossings.borne.Goals as goal
-use Rattle.step.proofs.crossings.borne.Goals.{After-from}
 
-abbrev product : After-from → Wide
-product c =
-    times (store (times (number 20) (store (given c.args.water c.args.water 48016000000 refl c.requires.most) (lit< tt))) (lit< tt))
-    (store (given c.from.result c.args.along 10000 (from32 c.from.result c.args.along 10000 c.from.ensures c.requires.calm (lit< tt)) c.requires.calm) (lit< tt))
+near : (w a : ℤ) → nat_abs w ≤ 48016000000 → nat_abs a ≤ 10000 → nat_abs ((pos 20 *ℤ w) *ℤ a) ≤ 9603200000000000
+near w a h k = near_mul (pos 20 *ℤ w) a 960320000000 10000 (omega (arith, ints)) k
 
 pub overflow_mul-result-2 : goal.overflow_mul-result-2
-overflow_mul-result-2 c = fits (product c) (lit< tt)
+overflow_mul-result-2 c = grind (arith, to_z-of_z, near c.args.water c.args.along)
 
 pub returns : goal.returns
-returns c =
-    let p = store (product c) (lit< tt) in
-    record { value = p.is; bound = rw p.is (omega (arith, p.near)) }
+returns c = grind (arith, to_z-of_z, near c.args.water c.args.along)
