@@ -29,8 +29,8 @@ pub enum Call {
     Soak {
         amount: u16,
     },
-    // A side by its number, its kind by number, and the two values of that kind: numbers, and no `Hand` and `Side`, since
-    // wrong ones can be sent too, and are refused.
+    // A side by its number, its kind by number, and the two values of that kind: plain numbers instead of a `Hand` and a
+    // `Side`, since wrong ones can be sent and are refused.
     ChangeSide {
         side: u8,
         kind: u8,

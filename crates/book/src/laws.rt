@@ -32,8 +32,8 @@ pub fn water_laws<F: FluxRule, R: FrictionRule>(flux: &F, friction: &R)
 pub fn named_water_laws(bed: &BareBed, weed: &Weed<BareBed>)
     ensures rusanov_bare { WaterLaws (rules_of 1 rusanov_water rusanov_push (bare_slowed bed.now.coefficient)) }
     ensures hll_bare { WaterLaws (rules_of 2 hll_water hll_push (bare_slowed bed.now.coefficient)) }
-    ensures rusanov_weed { WaterLaws (rules_of 1 rusanov_water rusanov_push (λ q u h d. weed_slowed weed.now.strength.value (bare_slowed weed.now.over.coefficient q u h d) d)) }
-    ensures hll_weed { WaterLaws (rules_of 2 hll_water hll_push (λ q u h d. weed_slowed weed.now.strength.value (bare_slowed weed.now.over.coefficient q u h d) d)) }
+    ensures rusanov_weed { WaterLaws (rules_of 1 rusanov_water rusanov_push (λ q u h d. weed_slowed weed.now.strength (bare_slowed weed.now.over.coefficient q u h d) d)) }
+    ensures hll_weed { WaterLaws (rules_of 2 hll_water hll_push (λ q u h d. weed_slowed weed.now.strength (bare_slowed weed.now.over.coefficient q u h d) d)) }
 {
     water_laws(&Rusanov, bed);
     water_laws(&Hll, bed);

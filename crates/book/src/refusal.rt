@@ -1,4 +1,4 @@
-// Why a call or a record is refused, each case with its number.
+// Why a call or a record is refused, each case with its number. No `Error`: what it says is its number, and a reply has it.
 ghost use Rattle.std.specs.Prelude.{◌≡◌};
 ghost use Rattle.book.specs.Refusals.{refusal_number};
 

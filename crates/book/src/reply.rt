@@ -1,4 +1,4 @@
-// What a call is answered.
+// What a call is answered: one enum with the refusals in it, and no `Result`, since the book compares lists of replies.
 use crate::account::Account;
 use crate::cell::Cell;
 use crate::refusal::Refusal;

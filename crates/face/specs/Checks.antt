@@ -32,7 +32,7 @@ abbrev pub plain : Question → Asked
 plain (Root depth) = AskRoot (pos depth)
 plain (Flux name face) = AskFlux (plain_flux name) (plain_side face.left) (plain_side face.right)
 plain (Bare bed s) = AskBare (pos bed.coefficient) (plain_stream s)
-plain (Weed weed s) = AskWeed (pos weed.strength.value) (pos weed.over.coefficient) (plain_stream s)
+plain (Weed weed s) = AskWeed (pos weed.strength) (pos weed.over.coefficient) (plain_stream s)
 
 -- ---- the first fault of a question, in the order in which its numbers stand
 

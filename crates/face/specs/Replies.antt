@@ -26,4 +26,4 @@ abbrev pub answer_to : Question → Answer
 answer_to (Root depth) = Wave (root_of depth)
 answer_to (Flux name face) = flux_answer name face
 answer_to (Bare bed s) = Left (of_stream (bare_slowed bed.coefficient) s)
-answer_to (Weed weed s) = Left (weed_slowed weed.strength.value (of_stream (bare_slowed weed.over.coefficient) s) s.rate)
+answer_to (Weed weed s) = Left (weed_slowed weed.strength (of_stream (bare_slowed weed.over.coefficient) s) s.rate)

@@ -83,7 +83,7 @@ impl fmt::Display for Answer {
 }
 
 impl<'a> From<Unreadable<'a>> for Unanswered<'a> {
-    fn from(why: Unreadable<'a>) -> Unanswered<'a> {
+    fn from(why: Unreadable<'a>) -> Self {
         Unanswered::Unreadable { why }
     }
 }

@@ -67,6 +67,7 @@ fn face_side(side: Side, asked: AskedSide) -> Result<FaceSide, OutOfRange>
     let depth = Quantity::SideDepth { side }.natural(asked.depth)?;
     let velocity = Quantity::SideVelocity { side };
     let value = velocity.checked(asked.velocity)?;
+    // Both are in range here, so that the only fault left is `DryMoving`.
     FaceSide::new(depth, value as i32).map_err(|_| OutOfRange::DryMoving { velocity, value })
 }
 
@@ -89,7 +90,7 @@ fn bed(coefficient: i64) -> Result<BareBed, OutOfRange>
 }
 
 fn weed(strength: i64, coefficient: i64) -> Result<Weed<BareBed>, OutOfRange>
-    ensures { FirstFault (weed_fault strength coefficient) (λ weed. (pos weed.strength.value ≡ strength) × (pos weed.over.coefficient ≡ coefficient)) result }
+    ensures { FirstFault (weed_fault strength coefficient) (λ weed. (pos weed.strength ≡ strength) × (pos weed.over.coefficient ≡ coefficient)) result }
 {
     let strength = Quantity::Strength.natural(strength)?;
     Ok(Weed::new(strength, bed(coefficient)?).unwrap())

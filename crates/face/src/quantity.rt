@@ -120,6 +120,7 @@ impl fmt::Display for OutOfRange {
     fn fmt<W: fmt::Write>(&self, f: &mut fmt::Formatter<W>) -> fmt::Result {
         match self {
             OutOfRange::Beyond { quantity, value } => {
+                // 8 is the number of a rule that cannot be made; a flux number is none of a `RuleRefusal`.
                 let cause = if quantity.makes_rule() {
                     "refused 8"
                 } else {

@@ -20,7 +20,8 @@ pub struct AskedStream {
     pub rate: i64,
 }
 
-// A question as it is read.
+// A question as it is read. A type of its own beside `Question`: reading fails with a word of the line and checking with a
+// number, and a result with both errors and ghost fields gets no proof.
 #[derive(Clone, Copy)]
 pub enum Asked {
     Root {

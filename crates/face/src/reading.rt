@@ -50,27 +50,30 @@ pub(crate) fn read(line: &str) -> Result<Asked, Unreadable<'_>> {
 fn asked<'a>(words: &mut SplitWhitespace<'a>) -> Result<Asked, Unreadable<'a>> {
     match words.next().unwrap_or("") {
         "root" => Ok(Asked::Root {
-            depth: number(words, Quantity::Depth)?,
+            depth: read_number(words, Quantity::Depth)?,
         }),
         "flux" => Ok(Asked::Flux {
-            number: number(words, Quantity::FluxNumber)?,
+            number: read_number(words, Quantity::FluxNumber)?,
             left: read_side(words, Side::Left)?,
             right: read_side(words, Side::Right)?,
         }),
         "bare" => Ok(Asked::Bare {
-            coefficient: number(words, Quantity::Coefficient)?,
+            coefficient: read_number(words, Quantity::Coefficient)?,
             stream: read_stream(words)?,
         }),
         "weed" => Ok(Asked::Weed {
-            strength: number(words, Quantity::Strength)?,
-            coefficient: number(words, Quantity::Coefficient)?,
+            strength: read_number(words, Quantity::Strength)?,
+            coefficient: read_number(words, Quantity::Coefficient)?,
             stream: read_stream(words)?,
         }),
         word => Err(Unreadable::Unknown { word }),
     }
 }
 
-fn number<'a>(words: &mut SplitWhitespace<'a>, quantity: Quantity) -> Result<i64, Unreadable<'a>> {
+fn read_number<'a>(
+    words: &mut SplitWhitespace<'a>,
+    quantity: Quantity,
+) -> Result<i64, Unreadable<'a>> {
     let word = words.next().ok_or(Unreadable::Missing { quantity })?;
     word.parse::<i64>()
         .map_err(|_| Unreadable::NoNumber { quantity, word })
@@ -78,16 +81,16 @@ fn number<'a>(words: &mut SplitWhitespace<'a>, quantity: Quantity) -> Result<i64
 
 fn read_side<'a>(words: &mut SplitWhitespace<'a>, side: Side) -> Result<AskedSide, Unreadable<'a>> {
     Ok(AskedSide {
-        depth: number(words, Quantity::SideDepth { side })?,
-        velocity: number(words, Quantity::SideVelocity { side })?,
+        depth: read_number(words, Quantity::SideDepth { side })?,
+        velocity: read_number(words, Quantity::SideVelocity { side })?,
     })
 }
 
 fn read_stream<'a>(words: &mut SplitWhitespace<'a>) -> Result<AskedStream, Unreadable<'a>> {
     Ok(AskedStream {
-        flow: number(words, Quantity::Flow)?,
-        speed: number(words, Quantity::Speed)?,
-        depth: number(words, Quantity::NewDepth)?,
-        rate: number(words, Quantity::Rate)?,
+        flow: read_number(words, Quantity::Flow)?,
+        speed: read_number(words, Quantity::Speed)?,
+        depth: read_number(words, Quantity::NewDepth)?,
+        rate: read_number(words, Quantity::Rate)?,
     })
 }

@@ -11,7 +11,7 @@ use Rattle.rules.specs.Ints.{mul_sub, mul_neg, neg_mul, near_mul, abs_quot, quot
 pub width_pos : (a b : ℤ) → a <ℤ pos 0 → pos 0 <ℤ b → pos 0 <ℤ (b -ℤ a)
 width_pos a b h k = omega (arith, ints)
 
-width : (a b : ℤ) → a <ℤ pos 0 → pos 0 <ℤ b → b -ℤ a ≡ pos (unsigned_abs a + unsigned_abs b)
+pub width : (a b : ℤ) → a <ℤ pos 0 → pos 0 <ℤ b → b -ℤ a ≡ pos (unsigned_abs a + unsigned_abs b)
 width a b h k = omega (arith, ints)
 
 pub lean_near : (a b x : ℤ) (n : ℕ) → a <ℤ pos 0 → pos 0 <ℤ b → unsigned_abs x ≤ n → unsigned_abs ((a +ℤ b) *ℤ int_div x (b -ℤ a)) ≤ n
@@ -55,6 +55,12 @@ fan_even a b p d h k =
 pub fan_exchanged : (a b p q : ℤ) (d e : ℕ) → fan_water (neg_ℤ b) (neg_ℤ a) (neg_ℤ q) (neg_ℤ p) e d ≡ neg_ℤ (fan_water a b p q d e)
 unfolding fan_water
 fan_exchanged a b p q d e = simp (← quotient_neg, neg_ℤ-+ℤ, neg_mul, mul_neg, neg_ℤ-neg_ℤ, mul_sub, +ℤ_comm, *ℤ_comm)
+
+-- the other side's, from across the face
+pub fan_ge : (m : ℕ) (a b n v : ℤ) (d e : ℕ) → Apart m a b → a ≤ℤ n → a ≤ℤ v → v ≤ℤ b → neg_ℤ (fan_water a b (pos d *ℤ n) (pos e *ℤ v) d e) ≤ℤ pos (m * e)
+fan_ge m a b n v d e f l o u =
+    rw (← fan_exchanged a b (pos d *ℤ n) (pos e *ℤ v) d e, ← mul_neg (pos e) v, ← mul_neg (pos d) n)
+    (fan_le m (neg_ℤ b) (neg_ℤ a) (neg_ℤ v) (neg_ℤ n) e d (omega (arith, ints, f)) (omega (arith, ints)) (omega (arith, ints)) (omega (arith, ints)))
 
 -- ---- the push
 pub fan_push_near : (a b f g p q : ℤ) → Apart 24008 a b → unsigned_abs f ≤ 7924000000000000 → unsigned_abs g ≤ 7924000000000000 → unsigned_abs p ≤ 20000000000 → unsigned_abs q ≤ 20000000000 → unsigned_abs (fan_push a b p q f g) ≤ 10 ^ 17

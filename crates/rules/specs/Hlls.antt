@@ -1,12 +1,11 @@
 -- The flux of Harten, Lax and van Leer keeps the laws of a flux rule.
 use Rattle.std.specs.Prelude.{◌≡◌, ℕ, ◌*◌, ℤ, pos, neg_ℤ, ◌≤ℤ◌, ◌<ℤ◌}
-use Rattle.std.proofs.Common.{arith}
+use Rattle.std.proofs.Common.{refl, arith}
 use Rattle.std.proofs.lemmas.Int.{ints, clamps}
 use Rattle.rules.specs.Side.{Facing, pace_of, face_pace, discharge, momentum}
 use Rattle.rules.specs.Flux.{LawfulFlux}
 use Rattle.rules.specs.Hll.{Apart, slow_wave, fast_wave, slowest, fastest, by_waves, fan_water, fan_push, hll_water, hll_push}
-use Rattle.rules.specs.Sides.{discharge_near, momentum_near, face_near, paced, discharge_reversed, momentum_reversed, slow_reversed, fast_reversed, pace_exchanged}
-use Rattle.rules.specs.Roots.{root_least}
+use Rattle.rules.specs.Sides.{discharge_near, momentum_near, face_near, paced, discharge_reversed, momentum_reversed, slow_reversed, fast_reversed, pace_exchanged, becalmed, discharge_dry, momentum_dry}
 use Rattle.rules.specs.Fans.{fan_le, fan_even, fan_exchanged, fan_push_near, fan_push_even, fan_push_exchanged}
 
 -- ---- the waves of a face
@@ -19,17 +18,17 @@ module _ (dl : ℕ) (nl : ℤ) (dr : ℕ) (nr : ℤ) where
   unfolding slowest fastest slow_wave fast_wave
   between = omega (arith, ints, clamps)
 
-  apart : slowest dl nl dr nr <ℤ pos 0 → pos 0 <ℤ fastest dl nl dr nr → Apart (face_pace dl nl dr nr) (slowest dl nl dr nr) (fastest dl nl dr nr)
+  pub apart : slowest dl nl dr nr <ℤ pos 0 → pos 0 <ℤ fastest dl nl dr nr → Apart (face_pace dl nl dr nr) (slowest dl nl dr nr) (fastest dl nl dr nr)
   unfolding slowest fastest slow_wave fast_wave face_pace pace_of
   apart = omega (arith, ints, clamps)
 
   -- where the slowest does not go left and the fastest does not go right, there is no water
   calm : pos 0 ≤ℤ slowest dl nl dr nr → fastest dl nl dr nr ≤ℤ pos 0 → (discharge dl nl ≡ discharge dr nr) × (momentum dl nl ≡ momentum dr nr)
-  unfolding slowest fastest slow_wave fast_wave discharge momentum
+  unfolding slowest fastest
   calm h k =
-      let l : dl ≡ 0 = grind (arith, ints, clamps, (root_least dl).enough) in
-      let r : dr ≡ 0 = grind (arith, ints, clamps, (root_least dr).enough) in
-      grind (arith, ints)
+      let l = becalmed dl nl (omega (arith, ints, clamps)) (omega (arith, ints, clamps)) in
+      let r = becalmed dr nr (omega (arith, ints, clamps)) (omega (arith, ints, clamps)) in
+      rw (discharge_dry dl nl l, discharge_dry dr nr r, momentum_dry dl nl l, momentum_dry dr nr r) (refl, refl)
 
   -- ---- the laws
   out_bounded : hll_water dl nl dr nr ≤ℤ pos (face_pace dl nl dr nr * dl)

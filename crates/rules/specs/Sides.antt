@@ -1,5 +1,5 @@
 -- What the ranges of a side give, and a side seen from across the face.
-use Rattle.std.specs.Prelude.{◌≡◌, ℕ, ◌*◌, ◌≤◌, ℤ, pos, ◌*ℤ◌, neg_ℤ, unsigned_abs}
+use Rattle.std.specs.Prelude.{◌≡◌, ℕ, ◌*◌, ◌≤◌, ℤ, pos, ◌*ℤ◌, neg_ℤ, ◌≤ℤ◌, unsigned_abs}
 use Rattle.std.proofs.Common.{arith, lit<, to_z, of_z}
 use Rattle.std.specs.Int.{w32}
 use Rattle.std.proofs.lemmas.Nat.{mul-le}
@@ -39,12 +39,21 @@ momentum_near d n r =
     let a = near_mul (pos (20 * d)) (n *ℤ n) 40000000 100000000 (omega arith) (near_mul n n 10000 10000 r.slow r.slow) in
     omega (arith, ints, mul-le d d 2000000 2000000 h h)
 
--- at the pace of the face
+-- ---- at the pace of the face
+pub discharge_paced : (d : ℕ) (n : ℤ) (m : ℕ) → unsigned_abs n ≤ m → unsigned_abs (discharge d n) ≤ m * d
+unfolding discharge
+discharge_paced d n m h = omega (arith, near_mul (pos d) n d m (omega arith) h)
+
+pub left_paced : (dl : ℕ) (nl : ℤ) (dr : ℕ) (nr : ℤ) → unsigned_abs nl ≤ face_pace dl nl dr nr
+unfolding face_pace pace_of
+left_paced dl nl dr nr = omega arith
+
+pub right_paced : (dl : ℕ) (nl : ℤ) (dr : ℕ) (nr : ℤ) → unsigned_abs nr ≤ face_pace dl nl dr nr
+unfolding face_pace pace_of
+right_paced dl nl dr nr = omega arith
+
 pub paced : (dl : ℕ) (nl : ℤ) (dr : ℕ) (nr : ℤ) → (unsigned_abs (discharge dl nl) ≤ face_pace dl nl dr nr * dl) × (unsigned_abs (discharge dr nr) ≤ face_pace dl nl dr nr * dr)
-unfolding discharge face_pace pace_of
-paced dl nl dr nr =
-    let m = face_pace dl nl dr nr in
-    omega (arith, near_mul (pos dl) nl dl m (omega arith) (omega arith), near_mul (pos dr) nr dr m (omega arith) (omega arith))
+paced dl nl dr nr = (discharge_paced dl nl _ (left_paced dl nl dr nr), discharge_paced dr nr _ (right_paced dl nl dr nr))
 
 -- ---- with the velocity reversed
 pub discharge_reversed : (d : ℕ) (n : ℤ) → discharge d (neg_ℤ n) ≡ neg_ℤ (discharge d n)
@@ -66,6 +75,28 @@ fast_reversed d n = omega (arith, ints)
 pub pace_exchanged : (dl : ℕ) (nl : ℤ) (dr : ℕ) (nr : ℤ) → face_pace dr (neg_ℤ nr) dl (neg_ℤ nl) ≡ face_pace dl nl dr nr
 unfolding face_pace pace_of
 pace_exchanged dl nl dr nr = omega (arith, ints)
+
+-- ---- where the waves go
+-- where the slower wave does not go left and the faster does not go right, there is no water
+pub becalmed : (d : ℕ) (n : ℤ) → pos 0 ≤ℤ slow_wave d n → fast_wave d n ≤ℤ pos 0 → d ≡ 0
+unfolding slow_wave fast_wave
+becalmed d n h k = grind (arith, ints, (root_least d).enough)
+
+pub discharge_dry : (d : ℕ) (n : ℤ) → d ≡ 0 → discharge d n ≡ pos 0
+unfolding discharge
+discharge_dry d n e = grind (arith, ints)
+
+pub momentum_dry : (d : ℕ) (n : ℤ) → d ≡ 0 → momentum d n ≡ pos 0
+unfolding momentum
+momentum_dry d n e = grind (arith, ints)
+
+pub onward_carries : (d : ℕ) (n : ℤ) → pos 0 ≤ℤ slow_wave d n → pos 0 ≤ℤ discharge d n
+unfolding slow_wave discharge
+onward_carries d n h = grind (arith, ints)
+
+pub back_carries : (d : ℕ) (n : ℤ) → fast_wave d n ≤ℤ pos 0 → discharge d n ≤ℤ pos 0
+unfolding fast_wave discharge
+back_carries d n h = grind (arith, ints)
 
 -- ---- what the code has of a side, in 64 bits
 module _ (s : FaceSide) (x : ℤ) where

@@ -31,7 +31,8 @@ impl Face {
         self.left.slow_wave().min(self.right.slow_wave())
     }
 
-    // The fastest wave from the face: the other wave and the other bound, so that one method would take two closures.
+    // The fastest wave from the face. It differs from `slowest_wave` in the wave and in the bound: one method for both would
+    // take two closures.
     #[tactic(auto, unfolding(crate::specs::Hll::fastest))]
     pub(crate) fn fastest_wave(self) -> i64
         ensures { result ≡ of_face fastest self }

@@ -1,6 +1,8 @@
 // Why a rule cannot be made.
 ghost use Rattle.std.specs.Prelude.{◌≡◌};
 
+use crate::friction::bare_bed::MAX_COEFFICIENT;
+use crate::friction::weed::MAX_STRENGTH;
 use std::error::Error;
 use std::fmt;
 
@@ -11,7 +13,7 @@ pub enum RuleRefusal {
 }
 
 impl RuleRefusal {
-    // The number of this refusal: one for all that can be wrong with a rule, so that the cases' own numbers are no use.
+    // One number for all that can be wrong with a rule, which `as` would not give.
     pub fn number(self) -> u8
         ensures { result ≡ 8 }
     {
@@ -22,8 +24,8 @@ impl RuleRefusal {
 impl fmt::Display for RuleRefusal {
     fn fmt<W: fmt::Write>(&self, f: &mut fmt::Formatter<W>) -> fmt::Result {
         match self {
-            RuleRefusal::Coefficient => f.write_str("the coefficient is over 1000"),
-            RuleRefusal::Strength => f.write_str("the strength is over 1000000000"),
+            RuleRefusal::Coefficient => write!(f, "the coefficient is over {MAX_COEFFICIENT}"),
+            RuleRefusal::Strength => write!(f, "the strength is over {MAX_STRENGTH}"),
         }
     }
 }

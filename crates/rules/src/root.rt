@@ -17,7 +17,8 @@ pub fn root(depth: u32) -> u32
     }
 }
 
-// Nearly always the root of a tenth of `target`, rounded up: a power of two and three of Newton's steps.
+// Nearly always the root of a tenth of `target`, rounded up: a power of two and three of Newton's steps. By hand, since the
+// library's `isqrt`, which halves 32 times, takes five times as long.
 fn estimate(target: u64) -> u64
     ensures { result ≤ 1048576 }
 {

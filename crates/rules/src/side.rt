@@ -25,8 +25,8 @@ pub enum SideFault {
 impl fmt::Display for SideFault {
     fn fmt<W: fmt::Write>(&self, f: &mut fmt::Formatter<W>) -> fmt::Result {
         match self {
-            SideFault::TooDeep => f.write_str("the depth is over 2000000"),
-            SideFault::TooFast => f.write_str("the velocity is over 10000 either way"),
+            SideFault::TooDeep => write!(f, "the depth is over {MAX_DEPTH}"),
+            SideFault::TooFast => write!(f, "the velocity is over {MAX_VELOCITY} either way"),
             SideFault::DryMoving => f.write_str("the velocity over a depth of 0 is not 0"),
         }
     }
@@ -83,7 +83,8 @@ impl FaceSide {
         i64::from(self.normal) - i64::from(self.wave)
     }
 
-    // The faster wave of this side. One method for both would take the sign, and each caller would write it.
+    // The faster wave of this side. It differs from `slow_wave` in a sign, which one method for both would be given as a
+    // literal at each call.
     #[tactic(auto, unfolding(crate::specs::Hll::fast_wave))]
     pub fn fast_wave(self) -> i64
         ensures { result ≡ fast_wave self.depth self.normal }

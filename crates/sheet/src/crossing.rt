@@ -19,7 +19,7 @@ pub struct Crossing {
 }
 
 impl Crossing {
-    // Nothing, between two dry sides.
+    // Nothing, between two dry sides. By hand: a struct with ghost fields derives no `Default`.
     pub fn idle() -> Crossing
         ensures water { result.water ≡ pos 0 }
         ensures push { result.push ≡ pos 0 }

@@ -22,7 +22,7 @@ pub struct Water {
 }
 
 impl Water {
-    // A cell that is not laid.
+    // A cell that is not laid. By hand: a struct with ghost fields derives no `Default`.
     pub fn unlaid() -> Water
         ensures { result.cell ≡ no_cell }
     {

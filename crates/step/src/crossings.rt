@@ -24,25 +24,23 @@ impl Edges {
         }
     }
 
-    // Whether four times the pace of the face is more than the width of a cell times the rate.
+    // Whether the water at the face is too fast for a step: four times its pace is more than `span`, the width of a cell
+    // times the rate.
     pub(crate) fn is_too_fast(self, span: u32) -> bool
         ensures { result ≡ nat_lt span (4 * pace (face_seen self)) }
     {
         span < 4 * self.face().pace()
     }
 
-    // The flow along the face that the water carries over, which is that of the side it leaves: one function of two
-    // values, with nothing to choose by a closure.
+    // The flow along the face that the water carries over: that of the side it leaves.
+    #[tactic(auto, using(std::proofs::lemmas::Int::wraps))]
     fn carried(self, water: i64) -> i64
         requires { unsigned_abs water ≤ 48016000000 }
         ensures value { (rules : Rules) → water ≡ water_over rules (face_seen self) → result ≡ carried_over rules (face_seen self) }
         ensures bound { unsigned_abs result ≤ 10 ^ 16 }
     {
-        if water > 0 {
-            borne(water, self.left.along)
-        } else {
-            borne(water, self.right.along)
-        }
+        let from = if water > 0 { self.left } else { self.right };
+        borne(water, from.along)
     }
 
     // What crosses the face under a flux rule; nothing where the step is too slow for it.

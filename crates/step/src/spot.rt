@@ -3,7 +3,7 @@ ghost use Rattle.std.specs.Prelude.{◌<◌};
 
 use sheet::lake::Lake;
 
-// With the lake that it is on.
+// With the lake that it is on; row 0 is the southernmost, column 0 the westernmost.
 #[derive(Clone, Copy)]
 pub(crate) struct Spot<'a> {
     pub lake: &'a Lake,
