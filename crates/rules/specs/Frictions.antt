@@ -1,4 +1,4 @@
--- Numbers by size and sign, what drag leaves of a flow, and the laws of the friction rules.
+-- What drag leaves of a flow, and the laws of the friction rules.
 use Rattle.std.specs.Prelude.{◌≡◌, ℕ, ◌+◌, ◌-◌, ◌*◌, ◌<◌, ◌≤◌, ℤ, neg_ℤ, unsigned_abs}
 use Rattle.std.proofs.Common.{arith}
 use Rattle.std.proofs.Math.Nat.{div-add-mod, div-le_of_le-mul}

@@ -39,20 +39,25 @@ module _ (dl : ℕ) (nl : ℤ) (dr : ℕ) (nr : ℤ) where
   unfolding hll_water by_waves
   exchanged_water = simp (waves_exchanged.0, waves_exchanged.1, discharge_reversed, fan_exchanged) (grind (arith, ints, calm))
 
+  exchanged_push : hll_push dr (neg_ℤ nr) dl (neg_ℤ nl) ≡ hll_push dl nl dr nr
+  unfolding hll_push by_waves
+  exchanged_push = simp (waves_exchanged.0, waves_exchanged.1, discharge_reversed, momentum_reversed, fan_push_exchanged) (grind (arith, ints, calm))
+
   pub wide_apart : Facing dl nl → Facing dr nr → slowest dl nl dr nr <ℤ pos 0 → pos 0 <ℤ fastest dl nl dr nr → Apart 24008 (slowest dl nl dr nr) (fastest dl nl dr nr)
   wide_apart p q h k = omega (arith, ints, apart h k, face_near dl nl dr nr p q)
+
+in_bounded : (dl : ℕ) (nl : ℤ) (dr : ℕ) (nr : ℤ) → neg_ℤ (hll_water dl nl dr nr) ≤ℤ pos (face_pace dl nl dr nr * dr)
+in_bounded dl nl dr nr = rw (← exchanged_water dl nl dr nr) (rw pace_exchanged at (out_bounded dr (neg_ℤ nr) dl (neg_ℤ nl)))
 
 pub hll_lawful : LawfulFlux hll_water hll_push
 unfolding hll_water hll_push by_waves
 hll_lawful = record {
   out_bounded = λ dl nl dr nr p q. out_bounded dl nl dr nr;
-  in_bounded = λ dl nl dr nr p q. rw (← exchanged_water dl nl dr nr) (rw pace_exchanged at (out_bounded dr (neg_ℤ nr) dl (neg_ℤ nl)));
+  in_bounded = λ dl nl dr nr p q. in_bounded dl nl dr nr;
   even_water = λ d n p. grind (arith, ints, fan_even);
   even_push = λ d n p. grind (arith, ints, fan_push_even);
   exchanged_water = λ dl nl dr nr p q. exchanged_water dl nl dr nr;
-  exchanged_push = λ dl nl dr nr p q.
-      let w = waves_exchanged dl nl dr nr in
-      simp (w.0, w.1, discharge_reversed, momentum_reversed, fan_push_exchanged) (grind (arith, ints, calm));
+  exchanged_push = λ dl nl dr nr p q. exchanged_push dl nl dr nr;
   push_bounded = λ dl nl dr nr p q. grind (arith, ints, wide_apart, fan_push_near, momentum_near, discharge_near);
 }
 
