@@ -1,4 +1,5 @@
-// Why a call or a record is refused, each case with its number. No `Error`: what it says is its number, and a reply has it.
+// Why a call or a record is refused, each case with its number. No `Error`: a refusal is told by its
+// number, in a reply.
 ghost use Rattle.std.specs.Prelude.{◌≡◌};
 ghost use Rattle.book.specs.Refusals.{refusal_number};
 

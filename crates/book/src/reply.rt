@@ -1,4 +1,5 @@
-// What a call is answered: one enum with the refusals in it, and no `Result`, since the book compares lists of replies.
+// What a call is answered: one enum with the refusals in it. A `Result` would wrap the other six cases in `Ok` wherever the
+// book makes, turns or lists replies.
 use crate::account::Account;
 use crate::cell::Cell;
 use crate::refusal::Refusal;

@@ -42,8 +42,8 @@ pub(crate) fn reply(question: Question) -> Answer
 {
     match question {
         Question::Root { depth } => Answer::Wave { speed: root(depth) },
-        // Which rule answers is known from the line alone. A `match` hands a value of its own type to the generic function;
-        // a `dyn` or a function pointer would have to be made here, and handed on.
+        // Which rule answers is known from the line alone, and each arm is one call of a generic function: a `dyn` or a
+        // function pointer would be made in the same arms.
         Question::Flux { name, face } => match name {
             FluxName::Rusanov => passed(&Rusanov, face),
             FluxName::Hll => passed(&Hll, face),

@@ -20,8 +20,8 @@ pub struct AskedStream {
     pub rate: i64,
 }
 
-// A question as it is read. A type of its own beside `Question`: reading fails with a word of the line and checking with a
-// number, and a result with both errors and ghost fields gets no proof.
+// A question as it is read. A type of its own beside `Question`: reading fails with a word borrowed from the line, and a
+// `Result` of such an error and a value with ghost fields gets no generated proof.
 #[derive(Clone, Copy)]
 pub enum Asked {
     Root {

@@ -49,13 +49,21 @@ module _ (dl : ℕ) (nl : ℤ) (dr : ℕ) (nr : ℤ) where
 in_bounded : (dl : ℕ) (nl : ℤ) (dr : ℕ) (nr : ℤ) → neg_ℤ (hll_water dl nl dr nr) ≤ℤ pos (face_pace dl nl dr nr * dr)
 in_bounded dl nl dr nr = rw (← exchanged_water dl nl dr nr) (rw pace_exchanged at (out_bounded dr (neg_ℤ nr) dl (neg_ℤ nl)))
 
+even_water : (d : ℕ) (n : ℤ) → hll_water d n d n ≡ discharge d n
+unfolding hll_water by_waves
+even_water d n = grind (arith, ints, fan_even)
+
+even_push : (d : ℕ) (n : ℤ) → hll_push d n d n ≡ momentum d n
+unfolding hll_push by_waves
+even_push d n = grind (arith, ints, fan_push_even)
+
 pub hll_lawful : LawfulFlux hll_water hll_push
-unfolding hll_water hll_push by_waves
+unfolding hll_push by_waves
 hll_lawful = record {
   out_bounded = λ dl nl dr nr p q. out_bounded dl nl dr nr;
   in_bounded = λ dl nl dr nr p q. in_bounded dl nl dr nr;
-  even_water = λ d n p. grind (arith, ints, fan_even);
-  even_push = λ d n p. grind (arith, ints, fan_push_even);
+  even_water = λ d n p. even_water d n;
+  even_push = λ d n p. even_push d n;
   exchanged_water = λ dl nl dr nr p q. exchanged_water dl nl dr nr;
   exchanged_push = λ dl nl dr nr p q. exchanged_push dl nl dr nr;
   push_bounded = λ dl nl dr nr p q. grind (arith, ints, wide_apart, fan_push_near, momentum_near, discharge_near);

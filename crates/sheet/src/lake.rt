@@ -6,7 +6,7 @@ ghost use Rattle.sheet.specs.Ghosts.{sides_amiss};
 use crate::water::Water;
 use book::side::Side;
 
-// Cells row by row from the south-west in one `Vec`, so that a step goes over them in one loop, and the sides as an array in
+// Cells row by row from the south-west in one `Vec`, so that a step will go over them in one loop, and the sides as an array in
 // the order of their numbers, which a turn permutes.
 #[derive(Drop)]
 pub struct Lake {

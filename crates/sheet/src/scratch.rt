@@ -15,7 +15,7 @@ pub struct OwnFaces {
 }
 
 // The cells that a step makes, and what crosses the faces of each cell, the eastern faces of the last column and the
-// northern faces of the last row. Cells and faces are two, since a step exchanges the cells for the lake's.
+// northern faces of the last row. Cells and faces are two, since a step will exchange the cells for the lake's.
 #[derive(Drop)]
 pub struct Scratch {
     pub cells: Vec<Water>,

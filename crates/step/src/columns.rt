@@ -36,7 +36,8 @@ fn reversed(inner: Column) -> Column
     back
 }
 
-// Still water beyond a side that is held at a level, with the velocities of the inner cell.
+// Still water beyond a side that is held at a level, with the velocities of the inner cell. A copy is changed, as in
+// `reversed`.
 fn held_at(level: i32, inner: Column) -> Column
     requires { held_depth level inner.bed ≤ 2000000 }
     ensures { column_of result ≡ ghost_column (Held level) West (column_of inner) }

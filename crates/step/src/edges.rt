@@ -11,8 +11,8 @@ use book::side::Hand;
 use rules::root::root;
 use rules::side::FaceSide;
 
-// So much of the water of a column; where there is none, it does not move. The depth is a plain number, as in `Column`, and
-// the side a literal, so that nothing is tested twice.
+// So much of the water of a column; where there is none, it does not move. The depth is a plain number, as in `Column`; the
+// side is written out, since `FaceSide::new` would test its range again.
 fn edge_of(depth: u32, column: Column) -> Edge
     requires { depth ≤ 2000000 }
     ensures depth { result.side.depth ≡ depth }

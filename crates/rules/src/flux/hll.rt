@@ -46,8 +46,8 @@ fn carried(side: FaceSide) -> Flux
     }
 }
 
-// What passes a face that lies between the two waves. Its numbers have names of their own, as in the flux of Rusanov: read
-// from two values of `carried`, each reading would be one more step for the proof.
+// What passes a face that lies between the two waves. Six names, as in the flux of Rusanov: tried with two values of
+// `carried`, each reading of a field was one more step, and the proof did not close.
 fn fan(low: i64, high: i64, face: Face) -> Flux
     requires { Apart 24008 low high }
     ensures water { result.water ≡ fan_water low high (discharge face.left.depth face.left.normal) (discharge face.right.depth face.right.normal) face.left.depth face.right.depth }

@@ -22,6 +22,7 @@ impl FluxRule for Rusanov {
     fn flux(&self, face: Face) -> Flux {
         let Face { left, right } = face;
         let pace = i64::from(face.pace());
+        // Six names, as in `fan` of `hll`, where the reason stands.
         let (depth_left, depth_right) = (i64::from(left.depth), i64::from(right.depth));
         let (water_left, water_right) = (left.discharge(), right.discharge());
         let (push_left, push_right) = (left.momentum(), right.momentum());

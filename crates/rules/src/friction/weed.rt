@@ -18,7 +18,8 @@ pub struct Weed<R> {
     ghost small: { strength ≤ 1000000000 },
 }
 
-// By hand: `Clone` is not derived over a ghost field, and would promise what the clone of `R` does, and fail where that may.
+// By hand: over a ghost field and a type parameter together `Clone` is not derived; without the ghost field it would promise
+// only what the clone of `R` does, and fail where that may.
 impl<R: Copy> Clone for Weed<R> {
     ghost is_clone = { λ weed copy. copy ≡ weed };
 
