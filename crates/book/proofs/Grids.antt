@@ -29,5 +29,8 @@ grid_from rows columns xs f len h =
     let p : 0 < columns = some_columns rows columns k l in
     ap (λ j. get_or xs j no_cell) (sym (div-add-mod' k columns)) ∙ h (k / columns) (k % columns) (div_below k columns rows p l) (mod_below k columns p))
 
+pub grid_same : (rows columns : ℕ) (f g : ℕ → ℕ → Cell) → ((r c : ℕ) → r < rows → c < columns → f r c ≡ g r c) → grid rows columns f ≡ grid rows columns g
+grid_same rows columns f g h = grid_from rows columns _ g (length_grid rows columns f) (λ r c k l. grid_at rows columns f r c k l ∙ h r c k l)
+
 pub map_at : (rows columns : ℕ) (cells : List Cell) (f : Cell → Cell) (r c : ℕ) → length cells ≡ rows * columns → r < rows → c < columns → get_or (map f cells) (r * columns + c) no_cell ≡ f (get_or cells (r * columns + c) no_cell)
 map_at rows columns cells f r c e p q = get_or-map f cells (r * columns + c) no_cell no_cell (omega (arith, place_below rows columns r c p q))

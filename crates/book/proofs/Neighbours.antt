@@ -32,6 +32,32 @@ pub border_column : (t : Table) → Sound t → (hand : Hand) (k : ℕ) → k < 
 border_column t sound West k h = omega (arith, columns_some t sound)
 border_column t sound hand k h = omega (arith, columns_some t sound)
 
+-- ---- the neighbour to a hand, or none
+
+pub west_none : (t : Table) (r c : ℕ) → c ≡ 0 → neighbour t r c West ≡ None
+west_none t r c e = rw e refl
+
+pub west_some : (t : Table) (r c m : ℕ) → c ≡ suc m → neighbour t r c West ≡ Some (record { row = r; column = m })
+west_some t r c m e = rw e refl
+
+pub east_none : (t : Table) (r c : ℕ) → t.columns ≤ c + 1 → neighbour t r c East ≡ None
+east_none t r c h = rw le-ltb refl
+
+pub east_some : (t : Table) (r c m : ℕ) → m < t.columns → c + 1 ≡ m → neighbour t r c East ≡ Some (record { row = r; column = m })
+east_some t r c m h e = rw (e, lt-ltb) refl
+
+pub south_none : (t : Table) (r c : ℕ) → r ≡ 0 → neighbour t r c South ≡ None
+south_none t r c e = rw e refl
+
+pub south_some : (t : Table) (r c m : ℕ) → r ≡ suc m → neighbour t r c South ≡ Some (record { row = m; column = c })
+south_some t r c m e = rw e refl
+
+pub north_none : (t : Table) (r c : ℕ) → t.rows ≤ r + 1 → neighbour t r c North ≡ None
+north_none t r c h = rw le-ltb refl
+
+pub north_some : (t : Table) (r c m : ℕ) → m < t.rows → r + 1 ≡ m → neighbour t r c North ≡ Some (record { row = m; column = c })
+north_some t r c m h e = rw (e, lt-ltb) refl
+
 -- ---- in a sound table: the neighbour is on the sheet, or the cell stands at that side
 
 abbrev pub Stands : Table → ℕ → ℕ → Hand → Option Place → Type 0

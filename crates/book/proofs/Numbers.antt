@@ -1,16 +1,25 @@
 -- Signs, ranges, quotients and velocities, and the laws of `share`, `film` and `friction_speed`: a change of one of these three proves its laws again here.
-use Rattle.std.proofs.Common.{◌≡◌, ℕ, zero, suc, ◌+◌, ◌*◌, ◌/◌, ◌<◌, ◌≤◌, false, cond, ℤ, pos, negsuc, ◌*ℤ◌, neg_ℤ, nat_abs, ◌≤ℤ◌, sym, refl, ap, ◌∙◌, zero-le, mul-le-mul_right, div-lt_iff_lt-mul, mul-le-mul_left, div-mul-le_self, arith}
+use Rattle.std.proofs.Common.{◌≡◌, ℕ, zero, suc, ◌+◌, ◌*◌, ◌/◌, ◌<◌, ◌≤◌, false, cond, ℤ, pos, negsuc, ◌-ℤ◌, ◌*ℤ◌, neg_ℤ, nat_abs, ◌≤ℤ◌, sym, refl, ap, ◌∙◌, zero-le, mul-le-mul_right, div-lt_iff_lt-mul, mul-le-mul_left, div-mul-le_self, arith}
 use native.Mathlib.Nat.{zero-div, div-zero, le_of_mul-le-mul_right}
 use lib.IntN.{neg_ℤ-neg_ℤ, zero-*ℤ}
 use lib.Signed.{lt_z}
 use Rattle.std.proofs.lemmas.Int.{ints, unsigned_abs-mul}
 use Rattle.std.proofs.lemmas.Bool.{lt-ltb}
 use Rattle.std.proofs.lemmas.Bool.Decides.{nat_tests}
-use Rattle.book.specs.Ranges.{max_depth, max_velocity, outside}
+use Rattle.book.specs.Ranges.{max_depth, max_velocity, max_bed, outside, bed_amiss}
 use Rattle.book.specs.Numbers.{trunc, share, film, thinned, positive, greater, velocity, where_wet, friction_speed}
 use Rattle.rules.specs.Ints.{mul_neg, neg_mul, quot_neg, abs_quot}
 
 -- ---- signs
+
+pub abs_neg : (z : ℤ) → nat_abs (neg_ℤ z) ≡ nat_abs z
+abs_neg z = omega (arith, ints)
+
+pub abs_zero : (z : ℤ) → nat_abs z ≤ 0 → z ≡ pos 0
+abs_zero z h = omega (arith, ints)
+
+pub less_neg : (q z : ℤ) → neg_ℤ q -ℤ neg_ℤ z ≡ neg_ℤ (q -ℤ z)
+less_neg q z = omega (arith, ints)
 
 pub positive_le : (z : ℤ) (n : ℕ) → z ≤ℤ pos n → positive z ≤ n
 positive_le (pos a) n h = omega (arith, ints)
@@ -33,6 +42,9 @@ greater_swap a b = grind (arith, ints)
 
 pub inside : (low high n : ℕ) → outside low high n ≡ false → (low ≤ n) × (n ≤ high)
 inside low high n e = (grind (arith, nat_tests), grind (arith, nat_tests))
+
+pub bed_inside : (z : ℤ) → bed_amiss z ≡ false → nat_abs z ≤ max_bed
+bed_inside z e = grind (arith, ints, nat_tests)
 
 -- ---- quotients
 

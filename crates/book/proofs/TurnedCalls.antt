@@ -19,12 +19,18 @@ use Rattle.book.proofs.Numbers.{inside}
 use Rattle.book.proofs.Sums.{sum_turned, some_turned}
 use Rattle.book.proofs.Judged.{NoneThere, stage_is}
 use Rattle.book.proofs.TurnedFaces.{wide, cell_turned}
-use Rattle.book.proofs.TurnedTables.{hand_twice, sent, sent_row, sent_column, came_sent, depth_came, laid_kept, standing_turned, mapped_turned, laid_turned, blank_turned, walls_turned, sides_set, held_turned}
+use Rattle.book.proofs.TurnedTables.{hand_twice, sent, sent_row, sent_column, came_sent, depth_came, laid_came, standing_turned, mapped_turned, laid_turned, blank_turned, walls_turned, sides_set, held_turned}
 use Rattle.book.proofs.TurnedSteps.{too_slow_turned, slowest_turned, brim_passed_turned, step_cells, step_account}
 use Rattle.book.proofs.TurnedWords.{full_turned, poured_turned, rain_turned, soak_turned, fresh_turned, rest_turned, rained_turned, soaked_turned, size_turned, product_turned, off_turned, on_row, on_column, number_turned, hand_turned}
 
 abbrev pub turned_page : Turn → Page → Page
 turned_page τ p = record { book = turned_book τ p.book; reply = turned_reply τ p.reply }
+
+pub preparing_not : preparing ≡ start → ⊥
+preparing_not e = cc
+
+pub serving_not : serving ≡ start → ⊥
+serving_not e = cc
 
 -- ---- judged alike
 
@@ -54,7 +60,7 @@ module _ (rules : Rules) (flux : LawfulFlux rules.water rules.push) (friction : 
   faults_turned : (x : Call) → SoundAt (stage_of x) b.table → Alike (faults rules (turned_book τ b) (on_sheet x)) (faults rules b x)
   faults_turned (Prepare rows columns width) s = (size_turned τ rows columns width, refl, λ _. tt)
   faults_turned (Lay row column bed depth) s = (off_turned τ b.table row column, refl, λ _. (refl, refl, λ _. (refl, refl, λ _. tt)))
-  faults_turned Opening s = (some_turned τ b.table.rows b.table.columns _ (λ r c. not (cell_at b.table r c).laid) (λ r c h k. rw (cell_turned τ b.table r c h k, laid_kept)), refl, λ _. tt)
+  faults_turned Opening s = (some_turned τ b.table.rows b.table.columns _ (λ r c. not (cell_at b.table r c).laid) (λ r c h k. ap not (laid_came τ b.table r c h k)), refl, λ _. tt)
   faults_turned (Step rate) s = (refl, refl, λ _. (too_slow_turned τ b.table rate, refl, λ _. (brim_passed_turned rules flux τ b.table s rate, refl, λ _. (ap full (step_account rules flux τ b.table s rate b.account) ∙ full_turned τ _, refl, λ _. tt))))
   faults_turned (Rain n) s =
       let brim = some_turned τ b.table.rows b.table.columns (λ r c. ltb max_depth ((cell_at (turned_table τ b.table) r c).depth + n)) (λ r c. ltb max_depth ((cell_at b.table r c).depth + n)) (λ r c h k. ap (λ d. ltb max_depth (d + n)) (depth_came τ b.table r c h k)) in

@@ -112,6 +112,9 @@ module _ (τ : Turn) (t : Table) where
   pub depth_came : (r c : ℕ) → r < high τ t → c < wide τ t → (cell_at (turned_table τ t) r c).depth ≡ (came_cell τ t r c).depth
   depth_came r c h k = rw (cell_turned τ t r c h k, depth_kept)
 
+  pub laid_came : (r c : ℕ) → r < high τ t → c < wide τ t → (cell_at (turned_table τ t) r c).laid ≡ (came_cell τ t r c).laid
+  laid_came r c h k = rw (cell_turned τ t r c h k, laid_kept)
+
   pub standing_turned : standing (turned_table τ t) ≡ standing t
   standing_turned = sum_turned τ t.rows t.columns (λ r c. (cell_at (turned_table τ t) r c).depth) (λ r c. (cell_at t r c).depth) depth_came
 

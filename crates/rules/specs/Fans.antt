@@ -6,7 +6,7 @@ use Rattle.std.proofs.Math.Nat.{div-le_of_le-mul, mul-div-le}
 use Rattle.std.proofs.lemmas.Int.{ints, unsigned_abs-mul}
 use Rattle.std.proofs.lemmas.Nat.{mul-le}
 use Rattle.rules.specs.Hll.{Apart, fan_water, fan_push}
-use Rattle.rules.specs.Ints.{mul_sub, mul_neg, neg_mul, near_mul, abs_quot, quot_le, quot_whole, quotient_neg, halved}
+use Rattle.rules.specs.Ints.{mul_sub, sub_mul, mul_neg, neg_mul, near_mul, abs_quot, quot_le, quot_whole, quotient_neg, halved}
 
 pub width_pos : (a b : ℤ) → a <ℤ pos 0 → pos 0 <ℤ b → pos 0 <ℤ (b -ℤ a)
 width_pos a b h k = omega (arith, ints)
@@ -30,31 +30,43 @@ top a b p q d e = ((b *ℤ p) -ℤ (a *ℤ q)) +ℤ ((a *ℤ b) *ℤ (pos e -ℤ
 top_parts : (A B X Y d e : ℕ) → top (neg_ℤ (pos A)) (pos B) (pos d *ℤ (pos X -ℤ pos A)) (pos e *ℤ (pos B -ℤ pos Y)) d e ≡ pos (B * (d * X)) -ℤ pos (A * (e * Y))
 top_parts A B X Y d e = simp (mul_sub, neg_mul) (omega (arith, ints))
 
+pub top_is : (a b n v : ℤ) (d e : ℕ) → a <ℤ pos 0 → pos 0 <ℤ b → a ≤ℤ n → v ≤ℤ b → top a b (pos d *ℤ n) (pos e *ℤ v) d e ≡ pos (unsigned_abs b * (d * unsigned_abs (n -ℤ a))) -ℤ pos (unsigned_abs a * (e * unsigned_abs (b -ℤ v)))
+top_is a b n v d e h k l o =
+    let A = unsigned_abs a in
+    let B = unsigned_abs b in
+    let X = unsigned_abs (n -ℤ a) in
+    let Y = unsigned_abs (b -ℤ v) in
+    let p : a ≡ neg_ℤ (pos A) = omega (arith, ints) in
+    let q : b ≡ pos B = omega (arith, ints) in
+    let r : n ≡ pos X -ℤ pos A = omega (arith, ints) in
+    let s : v ≡ pos B -ℤ pos Y = omega (arith, ints) in
+    cc (top_parts A B X Y d e)
+
+pub top_exchanged : (a b p q : ℤ) (d e : ℕ) → top (neg_ℤ b) (neg_ℤ a) (neg_ℤ q) (neg_ℤ p) e d ≡ neg_ℤ (top a b p q d e)
+top_exchanged a b p q d e = simp (neg_ℤ-+ℤ, neg_mul, mul_neg, neg_ℤ-neg_ℤ, mul_sub, +ℤ_comm, *ℤ_comm)
+
 pub fan_le : (m : ℕ) (a b n v : ℤ) (d e : ℕ) → Apart m a b → a ≤ℤ n → n ≤ℤ b → v ≤ℤ b → fan_water a b (pos d *ℤ n) (pos e *ℤ v) d e ≤ℤ pos (m * d)
 unfolding fan_water
 fan_le m a b n v d e f l o u =
     let A = unsigned_abs a in
     let B = unsigned_abs b in
     let X = unsigned_abs (n -ℤ a) in
-    let Y = unsigned_abs (b -ℤ v) in
-    let p : a ≡ neg_ℤ (pos A) = omega (arith, ints, f) in
-    let q : b ≡ pos B = omega (arith, ints, f) in
-    let r : n ≡ pos X -ℤ pos A = omega (arith, ints, f) in
-    let s : v ≡ pos B -ℤ pos Y = omega (arith, ints, f) in
-    let t : top a b (pos d *ℤ n) (pos e *ℤ v) d e ≡ pos (B * (d * X)) -ℤ pos (A * (e * Y)) = cc (top_parts A B X Y d e) in
-    let g = mul-le-mul_left d (mul-le B X m (A + B) f.high (omega (arith, ints))) in
+    let x : X ≤ A + B = omega (arith, ints, f) in
+    let t = top_is a b n v d e f.left f.right l u in
+    let g = mul-le-mul_left d (mul-le B X m (A + B) f.high x) in
     rw (width a b f.left f.right, t) (quot_le _ (A + B) (m * d) (omega (arith, ints)) (omega (arith, ints)))
 
 pub fan_even : (a b p : ℤ) (d : ℕ) → a <ℤ pos 0 → pos 0 <ℤ b → fan_water a b p p d d ≡ p
 unfolding fan_water
 fan_even a b p d h k =
-    let t : b *ℤ p -ℤ a *ℤ p ≡ (b -ℤ a) *ℤ p = omega (arith, ints, mul_sub p b a) in
     let z : 0 < unsigned_abs a + unsigned_abs b = omega (arith, ints) in
-    simp (+ℤ_invr, *ℤ-zero, +ℤ_idr, t, width, quot_whole)
+    simp (+ℤ_invr, *ℤ-zero, +ℤ_idr, ← sub_mul, width, quot_whole)
 
 pub fan_exchanged : (a b p q : ℤ) (d e : ℕ) → fan_water (neg_ℤ b) (neg_ℤ a) (neg_ℤ q) (neg_ℤ p) e d ≡ neg_ℤ (fan_water a b p q d e)
 unfolding fan_water
-fan_exchanged a b p q d e = simp (← quotient_neg, neg_ℤ-+ℤ, neg_mul, mul_neg, neg_ℤ-neg_ℤ, mul_sub, +ℤ_comm, *ℤ_comm)
+fan_exchanged a b p q d e =
+    let w : neg_ℤ a -ℤ neg_ℤ b ≡ b -ℤ a = omega (arith, ints) in
+    rw (top_exchanged a b p q d e, w) (quotient_neg (top a b p q d e) (b -ℤ a))
 
 -- the other side's, from across the face
 pub fan_ge : (m : ℕ) (a b n v : ℤ) (d e : ℕ) → Apart m a b → a ≤ℤ n → a ≤ℤ v → v ≤ℤ b → neg_ℤ (fan_water a b (pos d *ℤ n) (pos e *ℤ v) d e) ≤ℤ pos (m * e)

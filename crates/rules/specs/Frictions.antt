@@ -1,11 +1,18 @@
--- What drag leaves of a flow, and the laws of the friction rules.
-use Rattle.std.specs.Prelude.{◌≡◌, ℕ, ◌+◌, ◌-◌, ◌*◌, ◌<◌, ◌≤◌, ℤ, neg_ℤ, unsigned_abs}
+-- Numbers by size and sign, what drag leaves of a flow, and the laws of the friction rules.
+use Rattle.std.specs.Prelude.{◌≡◌, ℕ, ◌+◌, ◌-◌, ◌*◌, ◌<◌, ◌≤◌, ℤ, pos, neg_ℤ, ◌≤ℤ◌, ◌<ℤ◌, unsigned_abs}
 use Rattle.std.proofs.Common.{arith}
 use Rattle.std.proofs.Math.Nat.{div-add-mod, div-le_of_le-mul}
 use Rattle.std.proofs.lemmas.Int.{ints}
 use Rattle.rules.specs.Drag.{quot_up, dragged, with_size}
 use Rattle.rules.specs.Friction.{Slowing, LawfulFriction}
 use Rattle.rules.specs.BareBed.{bare_slowed}
+
+-- ---- a size with a sign
+pub size_back : (q : ℤ) (n : ℕ) (x : ℤ) → q <ℤ pos 0 → x ≡ neg_ℤ (pos n) → x ≡ with_size q n
+size_back q n x h e = grind (arith, ints)
+
+pub size_on : (q : ℤ) (n : ℕ) (x : ℤ) → pos 0 ≤ℤ q → x ≡ pos n → x ≡ with_size q n
+size_on q n x h e = grind (arith, ints)
 
 -- ---- drag
 -- what is left of a flow of size n

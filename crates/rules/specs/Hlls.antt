@@ -8,6 +8,20 @@ use Rattle.rules.specs.Hll.{Apart, slow_wave, fast_wave, slowest, fastest, by_wa
 use Rattle.rules.specs.Sides.{discharge_near, momentum_near, face_near, paced, discharge_reversed, momentum_reversed, slow_reversed, fast_reversed, pace_exchanged, becalmed, discharge_dry, momentum_dry}
 use Rattle.rules.specs.Fans.{fan_le, fan_even, fan_exchanged, fan_push_near, fan_push_even, fan_push_exchanged}
 
+-- ---- by the waves
+module _ (a b x y z : ℤ) where
+  pub by_right : pos 0 ≤ℤ a → by_waves a b x y z ≡ x
+  unfolding by_waves
+  by_right h = grind (arith, ints)
+
+  pub by_left : a <ℤ pos 0 → b ≤ℤ pos 0 → by_waves a b x y z ≡ z
+  unfolding by_waves
+  by_left h k = grind (arith, ints)
+
+  pub by_fan : a <ℤ pos 0 → pos 0 <ℤ b → by_waves a b x y z ≡ y
+  unfolding by_waves
+  by_fan h k = grind (arith, ints)
+
 -- ---- the waves of a face
 module _ (dl : ℕ) (nl : ℤ) (dr : ℕ) (nr : ℤ) where
   waves_exchanged : (slowest dr (neg_ℤ nr) dl (neg_ℤ nl) ≡ neg_ℤ (fastest dl nl dr nr)) × (fastest dr (neg_ℤ nr) dl (neg_ℤ nl) ≡ neg_ℤ (slowest dl nl dr nr))
@@ -72,12 +86,12 @@ hll_lawful = record {
 -- ---- what the code comes to, by the ways of the waves
 module _ (dl : ℕ) (nl : ℤ) (dr : ℕ) (nr : ℤ) where
   pub goes_right : pos 0 ≤ℤ slowest dl nl dr nr → (hll_water dl nl dr nr ≡ discharge dl nl) × (hll_push dl nl dr nr ≡ momentum dl nl)
-  unfolding hll_water hll_push by_waves
-  goes_right h = grind (arith, ints)
+  unfolding hll_water hll_push
+  goes_right h = (by_right _ _ _ _ _ h, by_right _ _ _ _ _ h)
 
   pub goes_left : slowest dl nl dr nr <ℤ pos 0 → fastest dl nl dr nr ≤ℤ pos 0 → (hll_water dl nl dr nr ≡ discharge dr nr) × (hll_push dl nl dr nr ≡ momentum dr nr)
-  unfolding hll_water hll_push by_waves
-  goes_left h k = grind (arith, ints)
+  unfolding hll_water hll_push
+  goes_left h k = (by_left _ _ _ _ _ h k, by_left _ _ _ _ _ h k)
 
   pub goes_apart : (c1 c2 : ℤ) → c1 ≡ slowest dl nl dr nr → c2 ≡ fastest dl nl dr nr → slowest dl nl dr nr <ℤ pos 0 → pos 0 <ℤ fastest dl nl dr nr → (fan_water c1 c2 (discharge dl nl) (discharge dr nr) dl dr ≡ hll_water dl nl dr nr) × (fan_push c1 c2 (discharge dl nl) (discharge dr nr) (momentum dl nl) (momentum dr nr) ≡ hll_push dl nl dr nr)
   unfolding hll_water hll_push by_waves

@@ -49,6 +49,14 @@ not_below d s u p q =
 pub root_only : (d s : ℕ) → LeastRoot d s → s ≡ root_of d
 root_only d s p = omega (arith, not_below d s (root_of d) p (root_least d), not_below d (root_of d) s (root_least d) p)
 
+-- ---- for a search by halving (no code has one now): the root is one of the size numbers from low on
+pub upper_half : (t low size half : ℕ) → 0 < half → half < size → 10 * ((low + half - 1) * (low + half - 1)) < t → t ≤ 10 * ((low + size - 1) * (low + size - 1)) → Short t (low + half) × (t ≤ 10 * ((low + half + (size - half) - 1) * (low + half + (size - half) - 1)))
+upper_half t low size half p q r n =
+    (subst (Short t) (omega arith) (short_more t (low + half - 1) r), subst (λ (x : ℕ). t ≤ 10 * (x * x)) (omega arith) n)
+
+pub at_end : (t low size : ℕ) → 0 < size → size ≤ 1 → Short t low → t ≤ 10 * ((low + size - 1) * (low + size - 1)) → First t low
+at_end t low size p q s n = record { enough = subst (λ (x : ℕ). t ≤ 10 * (x * x)) (omega arith) n; short = s }
+
 -- s is the least, where s is enough and the number before it is not
 pub least_at : (d s : ℕ) → 0 < s → 10 * ((s - 1) * (s - 1)) < 981 * d → 981 * d ≤ 10 * (s * s) → LeastRoot d s
 least_at d s p h e = record { enough = e; least = λ u l. omega (arith, square_mono u (s - 1) (omega arith)) }

@@ -8,7 +8,7 @@ use Rattle.rules.specs.declared.side.FaceSide.{FaceSide}
 use Rattle.rules.specs.Root.{root_of}
 use Rattle.rules.specs.Side.{Facing, pace_of, face_pace, discharge, momentum}
 use Rattle.rules.specs.Hll.{slow_wave, fast_wave}
-use Rattle.rules.specs.Ints.{near_mul, mul_neg}
+use Rattle.rules.specs.Ints.{near_mul, mul_neg, mul_le_zero, mul_ge_zero}
 use Rattle.rules.specs.Roots.{root_least}
 use Rattle.rules.specs.Wide.{Wide, given, from32, store}
 
@@ -92,11 +92,11 @@ momentum_dry d n e = grind (arith, ints)
 
 pub onward_carries : (d : ℕ) (n : ℤ) → pos 0 ≤ℤ slow_wave d n → pos 0 ≤ℤ discharge d n
 unfolding slow_wave discharge
-onward_carries d n h = grind (arith, ints)
+onward_carries d n h = mul_ge_zero d n (omega (arith, ints))
 
 pub back_carries : (d : ℕ) (n : ℤ) → fast_wave d n ≤ℤ pos 0 → discharge d n ≤ℤ pos 0
 unfolding fast_wave discharge
-back_carries d n h = grind (arith, ints)
+back_carries d n h = mul_le_zero d n (omega (arith, ints))
 
 -- ---- what the code has of a side, in 64 bits
 module _ (s : FaceSide) (x : ℤ) where
@@ -105,6 +105,9 @@ module _ (s : FaceSide) (x : ℤ) where
 
   abbrev pub wide_normal : x ≡ to_z w32 (of_z w32 s.normal) → Wide
   wide_normal e = store (given x s.normal 10000 (from32 x s.normal 10000 e s.slow (lit< tt)) s.slow) (lit< tt)
+
+  abbrev pub wide_wave : x ≡ pos s.wave → Wide
+  wide_wave e = store (given x (pos (root_of s.depth)) 14008 (rw (← s.celerity) e) (root_near s.depth s.shallow)) (lit< tt)
 
   abbrev pub wide_discharge : x ≡ discharge s.depth s.normal → Wide
   wide_discharge e = store (given x (discharge s.depth s.normal) 20000000000 e (discharge_near s.depth s.normal (facing s))) (lit< tt)
