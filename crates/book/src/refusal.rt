@@ -1,5 +1,5 @@
-// Why a call or a record is refused, each case with its number. No `Error`: a refusal is told by its
-// number, in a reply.
+// Why a call or a record is refused, each case with its number. No `Error`: a reply carries a refusal, and
+// its number names it.
 ghost use Rattle.std.specs.Prelude.{◌≡◌};
 ghost use Rattle.book.specs.Refusals.{refusal_number};
 

@@ -9,7 +9,7 @@ ghost use Rattle.rules.specs.Flux.{LawfulFlux};
 use crate::face::Face;
 
 // The water that passes from left to right, and the push along the normal of the face.
-#[derive(Clone, Copy)]
+#[derive(Clone, Copy, Debug, PartialEq, Eq)]
 pub struct Flux {
     pub water: i64,
     pub push: i64,

@@ -3,6 +3,7 @@
 
 pub mod crossing;
 pub mod lake;
+pub mod place;
 pub mod scratch;
 pub mod sheet;
 pub mod water;

@@ -2,7 +2,7 @@
 ghost use Rattle.std.specs.Prelude.{◌≡◌, ◌*◌, length};
 
 use crate::lake::Lake;
-use crate::scratch::Scratch;
+pub use crate::scratch::Scratch;
 
 #[derive(Drop)]
 pub struct Sheet {
