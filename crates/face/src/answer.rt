@@ -2,12 +2,12 @@
 ghost use Rattle.std.specs.Prelude.{◌≡◌};
 ghost use Rattle.rules.specs.Face.{of_face};
 ghost use Rattle.rules.specs.Stream.{of_stream};
-ghost use Rattle.face.specs.Replies.{answer_to, passed_by};
+ghost use Rattle.face.specs.Checks.{FirstFault, fault_of};
+ghost use Rattle.face.specs.Replies.{RightAnswer, answer_to, passed_by};
 
 use crate::checking::check;
 use crate::quantity::OutOfRange;
-use crate::question::{FluxName, Question};
-use crate::reading::{Unreadable, read};
+use crate::question::{Asked, FluxName, Question};
 use rules::face::Face;
 use rules::flux::hll::Hll;
 use rules::flux::rusanov::Rusanov;
@@ -15,7 +15,6 @@ use rules::flux::{Flux, FluxRule};
 use rules::friction::FrictionRule;
 use rules::friction::stream::Stream;
 use rules::root::root;
-use std::error::Error;
 use std::fmt;
 
 #[derive(Clone, Copy)]
@@ -25,16 +24,11 @@ pub enum Answer {
     Left { flow: i64 },
 }
 
-// Why a line has no answer.
-#[derive(Clone, Copy, Debug, PartialEq, Eq)]
-pub enum Unanswered<'a> {
-    Unreadable { why: Unreadable<'a> },
-    OutOfRange { why: OutOfRange },
-}
-
-// The answer to a line that has at least one word.
-pub(crate) fn answer_line(line: &str) -> Result<Answer, Unanswered<'_>> {
-    Ok(reply(check(read(line)?)?))
+// The answer to what was asked, or the first of its numbers that is out of range.
+pub(crate) fn reply_to(asked: Asked) -> Result<Answer, OutOfRange>
+    ensures { FirstFault (fault_of asked) (RightAnswer asked) result }
+{
+    Ok(reply(check(asked)?))
 }
 
 pub(crate) fn reply(question: Question) -> Answer
@@ -81,26 +75,3 @@ impl fmt::Display for Answer {
         }
     }
 }
-
-impl<'a> From<Unreadable<'a>> for Unanswered<'a> {
-    fn from(why: Unreadable<'a>) -> Self {
-        Unanswered::Unreadable { why }
-    }
-}
-
-impl From<OutOfRange> for Unanswered<'_> {
-    fn from(why: OutOfRange) -> Self {
-        Unanswered::OutOfRange { why }
-    }
-}
-
-impl fmt::Display for Unanswered<'_> {
-    fn fmt<W: fmt::Write>(&self, f: &mut fmt::Formatter<W>) -> fmt::Result {
-        match self {
-            Unanswered::Unreadable { why } => write!(f, "{why}"),
-            Unanswered::OutOfRange { why } => write!(f, "{why}"),
-        }
-    }
-}
-
-impl Error for Unanswered<'_> {}

@@ -3,11 +3,12 @@
 
 mod answer;
 mod checking;
+mod line;
 mod quantity;
 mod question;
 mod reading;
 
-use answer::answer_line;
+use line::answer_line;
 use std::io;
 use std::io::{BufRead, BufReader};
 
